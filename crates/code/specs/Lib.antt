@@ -1,0 +1,9 @@
+-- What a reader must believe, in the order of document 01.
+pub mod Record
+pub mod Image
+pub mod Payload
+pub mod Flags
+pub mod Reach
+pub mod Numbers
+pub mod Calls
+pub mod Examples

@@ -1,0 +1,61 @@
+-- Document 01, "Numbers, in checking order".
+use mathlib.Core.Path.{_≡_}
+use mathlib.Core.Logic.{_⊎_, _≢_}
+use mathlib.Core.Bool.{Bool}
+use mathlib.Core.List.{List, [], _∷_}
+use Prim.Native.Nat.{ℕ, zero, suc, _^_, _<_, _≤_}
+use lib.ListN.{length}
+use lib.Dec.{ltb}
+use Rattle.code.specs.Record.{Shape, base}
+use Rattle.code.specs.Image.{all-tracks, image-size}
+use Rattle.code.specs.Flags.{word-flags}
+use Rattle.code.specs.Reach.{pick, flags-code}
+
+-- A number, the detail that goes with it, and the condition under which it is given.
+pub record Check : Type 1 where
+  pub number : ℕ
+  pub detail : ℕ
+  pub applies : Type 0
+
+-- 1: the block count is 0 or above 256.
+abbrev pub count-check : ℕ → Check
+count-check n = record { number = 1; detail = 0; applies = (n ≡ 0) ⊎ (256 < n) }
+
+-- 2: the input's length is not the size that the call asks for.
+abbrev pub length-check : ℕ → List ℕ → Check
+length-check size input = record { number = 2; detail = 0; applies = length input ≢ size }
+
+-- 3: the output is shorter than the result.
+abbrev pub room-check : ℕ → List ℕ → Check
+room-check size output = record { number = 3; detail = 0; applies = length output < size }
+
+-- The index of the first cell that is neither 0 nor 1, and the length where there is none.
+unfoldable pub first-bad : List ℕ → ℕ
+first-bad [] = 0
+first-bad (x ∷ xs) = pick (ltb x 2) (suc (first-bad xs)) 0
+
+-- 4: the image has a cell that is neither 0 nor 1, and the detail is the index of the first one.
+abbrev pub cell-check : List ℕ → Check
+cell-check image = record { number = 4; detail = first-bad image; applies = first-bad image < length image }
+
+-- 5: the flag word has a bit from 18 up.
+abbrev pub flag-check : Shape → ℕ → Check
+flag-check sh flags = record { number = 5; detail = 0; applies = 2 ^ all-tracks sh ≤ flags }
+
+-- 6: the table's code for the flags is 0.
+abbrev pub reach-check : Shape → ℕ → Check
+reach-check sh flags = record { number = 6; detail = 0; applies = flags-code sh (word-flags sh flags) ≡ 0 }
+
+-- A condition decides between two statements.
+abbrev pub Decides : Type 0 → Type 0 → Type 0 → Type 0
+Decides c holds fails = (c × holds) ⊎ (¬ c × fails)
+
+-- The first check that applies says what is right; where none applies, `rest` does.
+abbrev pub First : List {1} Check → (Check → Type 0) → Type 0 → Type 0
+First [] right rest = rest
+First (c ∷ cs) right rest = Decides (c .applies) (right c) (First cs right rest)
+
+-- None of the checks applies.
+abbrev pub Passed : List {1} Check → Type 0
+Passed [] = Unit {0}
+Passed (c ∷ cs) = ¬ c .applies × Passed cs

@@ -1,0 +1,93 @@
+-- Document 01, "Flags and reach": the table of codes, extra tracks, records in reach.
+use mathlib.Core.Path.{_≡_}
+use mathlib.Core.Bool.{Bool, true, false, _&&_, _||_}
+use mathlib.Core.List.{List, [], _∷_}
+use Prim.Native.Nat.{ℕ, _+_, _<_, _≤_}
+use lib.ListN.{getD}
+use lib.Dec.{eqb}
+use Rattle.code.specs.Record.{TrackSet, A, B, Shape, tracks, Cells, Good, Same}
+use Rattle.code.specs.Flags.{TrackFlags, whole, AgreeOff, flag-count}
+
+-- The table: the pairs of flag counts a, b and their codes. Pairs not listed have code 0.
+pub record Row : Type 0 where
+  pub a : ℕ
+  pub b : ℕ
+  pub code : ℕ
+
+abbrev row : ℕ → ℕ → ℕ → Row
+row a b c = record { a = a; b = b; code = c }
+
+abbrev pub rows : List Row
+rows =
+    row 0 0 5
+    ∷ row 1 0 4 ∷ row 0 1 4 ∷ row 1 1 4
+    ∷ row 2 0 3
+    ∷ row 0 2 2
+    ∷ row 2 1 1 ∷ row 1 2 1 ∷ row 2 2 1 ∷ row 3 0 1 ∷ row 0 3 1 ∷ row 3 1 1 ∷ row 1 3 1
+    ∷ []
+
+abbrev pub pick : {X : Type 0} → Bool → X → X → X
+pick true x y = x
+pick false x y = y
+
+unfoldable pub look-up : List Row → ℕ → ℕ → ℕ
+look-up [] a b = 0
+look-up (r ∷ rs) a b = pick (eqb (r .a) a && eqb (r .b) b) (r .code) (look-up rs a b)
+
+unfoldable pub reach-code : ℕ → ℕ → ℕ
+reach-code a b = look-up rows a b
+
+-- The code of the flags.
+unfoldable pub flags-code : Shape → TrackFlags → ℕ
+flags-code sh f = reach-code (flag-count sh f A) (flag-count sh f B)
+
+-- The extra tracks that a code allows, in each set and in all. By code:      0   1   2   3   4   5
+abbrev pub most-in : ℕ → TrackSet → ℕ
+most-in code A = getD (0 ∷ 0 ∷ 1 ∷ 0 ∷ 1 ∷ 1 ∷ []) code 0
+most-in code B = getD (0 ∷ 0 ∷ 0 ∷ 1 ∷ 1 ∷ 1 ∷ []) code 0
+
+abbrev pub most : ℕ → ℕ
+most code = getD (0 ∷ 0 ∷ 1 ∷ 1 ∷ 1 ∷ 2 ∷ []) code 0
+
+-- No extra track, or one.
+pub data Extra : Type 0 where
+  none : Extra
+  extra : ℕ → Extra
+
+abbrev pub size : Extra → ℕ
+size none = 0
+size (extra t) = 1
+
+abbrev pub is : Extra → ℕ → Bool
+is none t = false
+is (extra u) t = eqb t u
+
+-- A choice: for each set no extra track or one.
+abbrev pub Choice : Type 0
+Choice = TrackSet → Extra
+
+-- A choice that the code allows. An extra track is an unflagged one.
+pub record Allowed (sh : Shape) (code : ℕ) (f : TrackFlags) (e : Choice) : Type 0 where
+  pub in-set : (s : TrackSet) → size (e s) ≤ most-in code s
+  pub in-all : size (e A) + size (e B) ≤ most code
+  pub track : (s : TrackSet) (t : ℕ) → e s ≡ extra t → t < tracks sh s
+  pub unflagged : (s : TrackSet) (t : ℕ) → e s ≡ extra t → f s t ≡ false
+
+-- The flagged tracks and the extra ones.
+abbrev pub with-extras : TrackFlags → Choice → TrackFlags
+with-extras f e s t = f s t || is (e s) t
+
+-- y is in reach of x: it differs from x only in flagged tracks and in extras that the code allows.
+pub record InReach (sh : Shape) (code : ℕ) (f : TrackFlags) (x y : Cells) : Type 0 where
+  pub choice : Choice
+  pub allowed : Allowed sh code f choice
+  pub agree : AgreeOff sh (whole (with-extras f choice)) x y
+
+-- Two different good records agree on all unflagged tracks: nothing tells which of them was written.
+pub record Ambiguous (sh : Shape) (f : TrackFlags) : Type 0 where
+  pub one : Cells
+  pub two : Cells
+  pub good-one : Good sh one
+  pub good-two : Good sh two
+  pub agree : AgreeOff sh (whole f) one two
+  pub differ : Same sh one two → ⊥
