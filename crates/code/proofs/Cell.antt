@@ -30,35 +30,24 @@ pub lag-sets : (sh : Shape) (s : TrackSet) → data-tracks sh s + data-tracks sh
 lag-sets sh A = refl
 lag-sets sh B = omega arith
 
+-- What holds of both closings' numbers holds of the closing's.
+by-each : (P : ℕ → Type 0) (c : Closing) (v w : ℕ) → P v → P w → P (by-closing c v w)
+by-each P closed-tail v w p q = p
+by-each P open-tail v w p q = q
+
 -- Rule 3 covers the data, and ends with the track at the latest.
 pub vertical-data : (sh : Shape) → sh .positions ≤ vertical-end sh
-vertical-data sh = go (sh .closing)
-  where
-    go : (c : Closing) → sh .positions ≤ by-closing c (track-length sh) (sh .positions)
-    go closed-tail = omega arith
-    go open-tail = omega arith
+vertical-data sh = by-each (λ v. sh .positions ≤ v) (sh .closing) _ _ (omega arith) (omega arith)
 
 pub vertical-within : (sh : Shape) → vertical-end sh ≤ track-length sh
-vertical-within sh = go (sh .closing)
-  where
-    go : (c : Closing) → by-closing c (track-length sh) (sh .positions) ≤ track-length sh
-    go closed-tail = omega arith
-    go open-tail = omega arith
+vertical-within sh = by-each (λ v. v ≤ track-length sh) (sh .closing) _ _ (omega arith) (omega arith)
 
--- Rule 4 covers the data tracks.
+-- Rule 4 covers the data tracks, and no more than the tracks.
 pub tail-data : (sh : Shape) (s : TrackSet) → data-tracks sh s < tail-tracks sh s
-tail-data sh s = go (sh .closing)
-  where
-    go : (c : Closing) → data-tracks sh s < by-closing c (suc (data-tracks sh s)) (tracks sh s)
-    go closed-tail = omega arith
-    go open-tail = omega arith
+tail-data sh s = by-each (λ v. data-tracks sh s < v) (sh .closing) _ _ (omega arith) (omega arith)
 
 pub tail-within : (sh : Shape) (s : TrackSet) → tail-tracks sh s ≤ tracks sh s
-tail-within sh s = go (sh .closing)
-  where
-    go : (c : Closing) → by-closing c (suc (data-tracks sh s)) (tracks sh s) ≤ tracks sh s
-    go closed-tail = omega arith
-    go open-tail = omega arith
+tail-within sh s = by-each (λ v. v ≤ tracks sh s) (sh .closing) _ _ (omega arith) (omega arith)
 
 -- What the closings have in common: the vertical track of the tail follows from rule 3 or is 0 by rule 4.
 pub data Closed (sh : Shape) : Type 0 where

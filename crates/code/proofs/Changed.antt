@@ -1,14 +1,14 @@
 -- Changed cells, mask and extras depend on the records' own cells alone.
 use mathlib.Core.Path.{_≡_, refl, ap, ap₂, _∙_}
 use mathlib.Core.Bool.{Bool, true, false, _&&_, not}
-use Prim.Native.Nat.{ℕ, zero, suc, _+_, _^_, _<_, _≤_}
+use Prim.Native.Nat.{ℕ, zero, suc, _+_, _<_, _≤_}
 use native.Mathlib.Omega.{arith}
 use lib.Dec.{eqb}
 use Rattle.code.specs.Record.{TrackSet, A, B, Shape, tracks, track-length, Cells, sum, Same}
 use Rattle.code.specs.Image.{track-number}
 use Rattle.code.specs.Flags.{TrackFlags}
 use Rattle.code.specs.Reach.{pick, Extra, extra}
-use Rattle.code.specs.Calls.{Result, differ, changed-in, over-tracks, changed-cells, changed-mask, changed-extra, mended}
+use Rattle.code.specs.Calls.{Result, differ, changed-in, over-tracks, changed-cells, mask-bit, changed-mask, changed-extra, mended}
 use Rattle.code.proofs.Sums.{sum-same}
 
 module _ (sh : Shape) (x x′ y y′ : Cells) (ex : Same sh x x′) (ey : Same sh y y′) where
@@ -26,9 +26,9 @@ module _ (sh : Shape) (x x′ y y′ : Cells) (ex : Same sh x x′) (ey : Same s
   pub changed-mask-same : changed-mask sh x y ≡ changed-mask sh x′ y′
   unfolding changed-mask
   changed-mask-same = over-same
-      (λ s t. pick (eqb (changed-in sh x y s t) 0) 0 (2 ^ track-number sh s t))
-      (λ s t. pick (eqb (changed-in sh x′ y′ s t) 0) 0 (2 ^ track-number sh s t))
-      (λ s t l. ap (λ (k : ℕ). pick (eqb k 0) 0 (2 ^ track-number sh s t)) (changed-in-same s t l))
+      (λ s t. mask-bit (track-number sh s t) (changed-in sh x y s t))
+      (λ s t. mask-bit (track-number sh s t) (changed-in sh x′ y′ s t))
+      (λ s t l. ap (mask-bit (track-number sh s t)) (changed-in-same s t l))
 
   pub changed-extra-same : (f : TrackFlags) (s : TrackSet) (k : ℕ) → k ≤ tracks sh s → changed-extra sh f x y s k ≡ changed-extra sh f x′ y′ s k
   unfolding changed-extra

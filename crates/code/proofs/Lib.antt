@@ -2,6 +2,7 @@ pub mod Sums
 pub mod Cell
 pub mod Linear
 pub mod Patterns
+pub mod Solving
 pub mod Unique
 pub mod Codes
 pub mod Reached

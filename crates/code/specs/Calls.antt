@@ -104,8 +104,11 @@ unfoldable pub changed-cells : Shape → Cells → Cells → ℕ
 changed-cells sh x y = over-tracks sh (changed-in sh x y)
 
 -- Bit g of the mask is set exactly if some cell of track g differs.
+abbrev pub mask-bit : ℕ → ℕ → ℕ
+mask-bit g changed = pick (eqb changed 0) 0 (2 ^ g)
+
 unfoldable pub changed-mask : Shape → Cells → Cells → ℕ
-changed-mask sh x y = over-tracks sh (λ s t. pick (eqb (changed-in sh x y s t) 0) 0 (2 ^ track-number sh s t))
+changed-mask sh x y = over-tracks sh (λ s t. mask-bit (track-number sh s t) (changed-in sh x y s t))
 
 -- The changed track of a set outside the flags, by its track number, among the first k tracks.
 unfoldable pub changed-extra : Shape → TrackFlags → Cells → Cells → TrackSet → ℕ → Extra

@@ -7,3 +7,4 @@ pub mod Reach
 pub mod Numbers
 pub mod Calls
 pub mod Examples
+pub mod Sizes

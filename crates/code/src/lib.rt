@@ -1,6 +1,13 @@
-// The table of reach codes.
+// The sizes of a record, and the table of reach codes.
 ghost use mathlib.Core.Path.{_≡_};
 ghost use Rattle.code.specs.Reach.{reach-code};
+
+// The data tracks of set A and of set B, and the data positions.
+pub struct Sizes {
+    pub t1: usize,
+    pub t2: usize,
+    pub positions: usize,
+}
 
 // The code of a flagged tracks in set A and b in set B, a by row and b along it.
 pub const REACH: [[u8; 10]; 10] = [
