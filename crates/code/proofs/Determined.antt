@@ -11,7 +11,7 @@ use Rattle.code.specs.Record.{TrackSet, A, B, Shape, base, Cells, Good, 
 use Rattle.code.specs.Image.{image-size, cells}
 use Rattle.code.specs.Payload.{payload-size}
 use Rattle.code.specs.Flags.{word-flags}
-use Rattle.code.specs.Reach.{Extra, none, flags-code}
+use Rattle.code.specs.Reach.{Extra, none}
 use Rattle.code.specs.Numbers.{Check, First, Passed}
 use Rattle.code.specs.Calls.{
   Result,
@@ -35,6 +35,7 @@ use Rattle.code.specs.Calls.{
   Viewed,
 }
 use Rattle.code.proofs.Codes.{code-within}
+use Rattle.code.proofs.Numbers.{passed-code}
 use Rattle.code.proofs.Payloads.{payload-fixed, same-payload}
 use Rattle.code.proofs.Places.{cell-lt, same-bytes, same-output}
 use Rattle.code.proofs.Reached.{repaired-unique, reached-unique}
@@ -106,21 +107,17 @@ module _ (before : List ℕ) (r₁ r₂ : Result) (after₁ after₂ : List ℕ)
       decided (inr a) (inr b) = record { result = a .1 .result ∙ sym (b .1 .result); output = a .1 .output ∙ sym (b .1 .output) }
 
   module _ (n flags : ℕ) (image : List ℕ) where
-    -- After the checks the flags have a code.
-    coded : Passed (repair-checks n flags image before) → flags-code (base n) (word-flags (base n) flags) ≡ 0 → ⊥
-    coded p = p .1 .1 .1 .1 .1 .0
-
     pub repair-determined : Repaired n flags image before r₁ after₁ → Repaired n flags image before r₂ after₂ → Equal r₁ r₂ after₁ after₂
     repair-determined = call-equal (repair-checks n flags image before)
         (Mended (base n) (RepairNear (base n) flags image) (λ _ _. none) image before) before r₁ r₂ after₁ after₂ (λ p.
         mended-equal (base n) (RepairNear (base n) flags image) (λ _ _. none) image (λ x y.
-        repaired-unique (base n) (word-flags (base n) flags) (cells (base n) image) x y (code-within (base n) _ refl (coded p))))
+        repaired-unique (base n) (word-flags (base n) flags) (cells (base n) image) x y (code-within (base n) _ refl (passed-code n flags image before p))))
 
     pub trace-determined : Traced n flags image before r₁ after₁ → Traced n flags image before r₂ after₂ → Equal r₁ r₂ after₁ after₂
     trace-determined = call-equal (repair-checks n flags image before)
         (Mended (base n) (TraceNear (base n) flags image) (trace-named (base n) flags image) image before) before r₁ r₂ after₁ after₂ (λ p.
         mended-equal (base n) (TraceNear (base n) flags image) (trace-named (base n) flags image) image (λ x y.
-        reached-unique (base n) (word-flags (base n) flags) (cells (base n) image) x y refl (coded p)))
+        reached-unique (base n) (word-flags (base n) flags) (cells (base n) image) x y refl (passed-code n flags image before p)))
 
 pub view-determined : (n : ℕ) (image : List ℕ) (g : ℕ) (part₁ part₂ : List ℕ) → Viewed n image g part₁ → Viewed n image g part₂ → part₁ ≡ part₂
 view-determined n image g part₁ part₂ = first-agree (view-checks n image g) (λ (c : Check) (a : part₁ ≡ []) (b : part₂ ≡ []). a ∙ sym b) (λ p a b. a ∙ sym b)

@@ -23,14 +23,11 @@ use Rattle.code.proofs.Patterns.{neither}
 use Rattle.code.proofs.Reached.{count-extras}
 use Rattle.code.proofs.Unique.{unique-tracks}
 use Rattle.code.proofs.Changed.{mended-same, changed-extra-same}
-use Rattle.code.proofs.Linear.{good-same, good-blank, blank}
+use Rattle.code.proofs.Linear.{same-sym, good-same, good-blank, blank}
 use Rattle.code.proofs.Numbers.{first-bad-none, first-passed}
 use Rattle.code.proofs.Spots.{spot, spots, length-ones, ones-bit, ones-cells, image-cells, ones-stay}
 use Rattle.code.proofs.Table.{and-left, and-right}
 use Rattle.code.proofs.Tests.{every, every-at, both-sets, both-at, good-test, tested-good}
-
-same-sym : {sh : Shape} {x y : Cells} → Same sh x y → Same sh y x
-same-sym e = record { cell = λ s t m l b. sym (e .cell s t m l b) }
 
 abbrev flags-of : ℕ → TrackFlags
 flags-of word = word-flags (base 1) word

@@ -20,6 +20,8 @@ pub mod Table
 pub mod Places
 pub mod Numbers
 pub mod Determined
+pub mod RoundTrip
+pub mod Demands
 pub mod Changed
 pub mod Tests
 pub mod Spots

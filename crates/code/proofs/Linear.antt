@@ -60,6 +60,9 @@ pub vertical-mod : (sh : Shape) (x : Cells) (s : TrackSet) (m : ℕ) → vertica
 unfolding vertical
 vertical-mod sh x s m = sum-mod _ _
 
+pub same-sym : {sh : Shape} {x y : Cells} → Same sh x y → Same sh y x
+same-sym e = record { cell = λ s t m l b. sym (e .cell s t m l b) }
+
 -- Sums depend on the record's own cells alone.
 pub diagonal-same : (sh : Shape) (x y : Cells) → Same sh x y → (s : TrackSet) (m : ℕ) → m < track-length sh → diagonal sh x s m ≡ diagonal sh y s m
 unfolding diagonal

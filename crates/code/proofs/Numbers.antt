@@ -1,6 +1,6 @@
 -- Laws of the checks: a list of bits has no bad cell, and checks that do not apply are passed by.
-use mathlib.Core.Path.{_≡_, refl, ap, _∙_}
-use mathlib.Core.Logic.{inr}
+use mathlib.Core.Path.{_≡_, refl, sym, ap, _∙_}
+use mathlib.Core.Logic.{inl, inr, _≢_}
 use mathlib.Core.Bool.{Bool, true, false}
 use mathlib.Core.List.{List, [], _∷_}
 use Prim.Native.Nat.{ℕ, zero, suc, _+_, _<_, _≤_}
@@ -8,7 +8,10 @@ use native.Mathlib.Omega.{arith}
 use lib.Dec.{ltb}
 use lib.ListN.{length, getD}
 use borrow.Author.Tests.{lt-ltb, le-ltb, ltb-true}
-use Rattle.code.specs.Reach.{pick}
+use Rattle.code.specs.Record.{base}
+use Rattle.code.specs.Flags.{word-flags}
+use Rattle.code.specs.Reach.{pick, flags-code}
+use Rattle.code.specs.Calls.{Result, Refused, repair-checks}
 use Rattle.code.specs.Numbers.{Check, First, Passed, first-bad}
 
 -- Where the first i cells are bits and cell i is not, the first bad cell is i.
@@ -42,3 +45,31 @@ first-bad-before (x ∷ xs) k h = go k (ltb x 2) refl h (first-bad-before xs)
 pub first-passed : (cs : List {1} Check) (right : Check → Type 0) (rest : Type 0) → Passed cs → rest → First cs right rest
 first-passed [] right rest p r = r
 first-passed (c ∷ cs) right rest p r = inr (p .0, first-passed cs right rest (p .1) r)
+
+-- Past checks that do not apply, the rest is what is said.
+pub passed-on : (cs : List {1} Check) (right : Check → Type 0) (rest : Type 0) → Passed cs → First cs right rest → rest
+passed-on [] right rest p f = f
+passed-on (c ∷ cs) right rest p (inl a) = absurd (p .0 (a .0))
+passed-on (c ∷ cs) right rest p (inr a) = passed-on cs right rest (p .1) (a .1)
+
+-- None of the checks has this number.
+abbrev pub Avoids : ℕ → List {1} Check → Type 0
+Avoids k [] = Unit {0}
+Avoids k (c ∷ cs) = (c .number ≢ k) × Avoids k cs
+
+pub record Through (cs : List {1} Check) (rest : Type 0) : Type 0 where
+  pub passed : Passed cs
+  pub done : rest
+
+-- A call that answers none of its checks' numbers met none of them.
+pub unrefused : (cs : List {1} Check) (r : Result) (before after : List ℕ) (rest : Type 0) (k : ℕ) → Avoids k cs →
+    First cs (Refused r before after) rest → r .answer ≡ k → Through cs rest
+unrefused [] r before after rest k v f e = record { passed = tt; done = f }
+unrefused (c ∷ cs) r before after rest k v (inl a) e = absurd (v .0 (sym (ap (λ (q : Result). q .answer) (a .1 .result)) ∙ e))
+unrefused (c ∷ cs) r before after rest k v (inr a) e =
+    let t = unrefused cs r before after rest k (v .1) (a .1) e in
+    record { passed = (a .0, t .passed); done = t .done }
+
+-- After the checks of repair and tracing the flags have a code.
+pub passed-code : (n flags : ℕ) (image before : List ℕ) → Passed (repair-checks n flags image before) → flags-code (base n) (word-flags (base n) flags) ≡ 0 → ⊥
+passed-code n flags image before p = p .1 .1 .1 .1 .1 .0

@@ -60,6 +60,16 @@ pub payload-index-lt : (sh : Shape) (n b : ℕ) (s : TrackSet) (c : ℕ) → b <
 payload-index-lt sh n b A c l h = Arith.digits-lt l (omega arith)
 payload-index-lt sh n b B c l h = Arith.digits-lt l (omega arith)
 
+-- Records with the same cells carry the same payload.
+pub carries-same : (sh : Shape) (n : ℕ) → sh .positions ≡ 8 * n → (x y : Cells) → Same sh x y → (payload : List ℕ) → Carries sh n x payload → Carries sh n y payload
+carries-same sh n e x y same payload c = record {
+  byte = λ b s d l h. c .byte b s d l h ∙ digits-same 8 _ _ (λ k i. same .cell s (suc d) (8 * b + k) (omega arith) (omega arith));
+}
+
+-- And lists with the same bytes are carried alike.
+pub carried-as : (sh : Shape) (n : ℕ) (x : Cells) (p q : List ℕ) → ((i : ℕ) → i < payload-size sh n → getD q i 0 ≡ getD p i 0) → Carries sh n x p → Carries sh n x q
+carried-as sh n x p q same c = record { byte = λ b s d l h. same _ (payload-index-lt sh n b s d l h) ∙ c .byte b s d l h }
+
 -- A payload is fixed by its record.
 pub payload-fixed : (sh : Shape) (n : ℕ) (x : Cells) (p q : List ℕ) → Carries sh n x p → Carries sh n x q → (i : ℕ) → i < payload-size sh n → getD p i 0 ≡ getD q i 0
 payload-fixed sh n x p q cp cq i l = go (byte-at sh n i l)

@@ -8,3 +8,4 @@ pub mod Numbers
 pub mod Calls
 pub mod Examples
 pub mod Sizes
+pub mod Answers

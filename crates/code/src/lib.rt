@@ -1,6 +1,8 @@
-// The sizes of a record, and the table of reach codes.
+// The sizes of a record, the table of reach codes, and what a call answers.
 ghost use mathlib.Core.Path.{_≡_};
 ghost use Rattle.code.specs.Reach.{reach-code};
+ghost use Rattle.code.specs.Calls.{plain};
+ghost use Rattle.code.specs.Answers.{result-of};
 
 // The data tracks of set A and of set B, and the data positions.
 pub struct Sizes {
@@ -34,4 +36,34 @@ pub fn reach(a: usize, b: usize) -> u8
         return 0;
     }
     REACH[a][b]
+}
+
+// No extra track, or one with its track number.
+pub enum Extra {
+    None,
+    Track(u32),
+}
+
+// What a call answers: 0 or a number, its detail, the changed mask and cells, and the extra of each set.
+pub struct Answer {
+    pub number: u32,
+    pub detail: u32,
+    pub mask: u32,
+    pub cells: u32,
+    pub a: Extra,
+    pub b: Extra,
+}
+
+// An answer with no changed cell and no extra.
+pub fn plain_answer(number: u32, detail: u32) -> Answer
+    ensures { λ r. ⌜ result-of r ≡ plain number detail ⌝ }
+{
+    Answer {
+        number,
+        detail,
+        mask: 0,
+        cells: 0,
+        a: Extra::None,
+        b: Extra::None,
+    }
 }
