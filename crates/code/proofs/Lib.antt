@@ -23,6 +23,8 @@ pub mod Determined
 pub mod RoundTrip
 pub mod Demands
 pub mod Changed
+pub mod Named
+pub mod Masks
 pub mod Tests
 pub mod Spots
 pub mod Examples
