@@ -24,6 +24,7 @@ pub mod RoundTrip
 pub mod Demands
 pub mod Changed
 pub mod Named
+pub mod Extras
 pub mod Masks
 pub mod Tests
 pub mod Spots

@@ -1,0 +1,177 @@
+/*
+ * axp.h - repair of 18-track cartridge records in the adaptive cross-parity code
+ *
+ * Four calls on numbers and byte slices: an encoder, a reader of good records, a repairer for
+ * flagged tracks and a tracer for unflagged ones. Each call always returns, allocates nothing, keeps
+ * no state between calls and reads and writes nothing but the slices that it is given, so it may be
+ * called from any number of threads at once.
+ *
+ * What a call answers and every byte that it leaves in the output are fixed by the project's
+ * document 01 and proved of the code behind axp_encode, axp_read, axp_repair and axp_trace. The
+ * static inline functions of this header are conveniences and no proved code.
+ *
+ * A record has n blocks, n from 1 to 256, and 18 tracks of L = 8n + 15 cells: tracks 0 to 8 of set A,
+ * then tracks 0 to 8 of set B. Its image is 18 * L bytes, one cell a byte, value 0 or 1; track number
+ * g (t for track t of A, 9 + t for track t of B) begins at byte g * L. Its payload is 14 bytes a
+ * block.
+ *
+ * C89 to C23 and C++, with <stdint.h> and <stddef.h>.
+ */
+#ifndef AXP_H
+#define AXP_H
+
+#include <stddef.h>
+#include <stdint.h>
+
+#ifdef __cplusplus
+extern "C" {
+#endif
+
+/* The most blocks of a record. */
+#define AXP_MAX_BLOCKS 256
+
+/* The tracks of a record. */
+#define AXP_TRACKS 18
+
+/* The cells of a track, L, the bytes of an image and the bytes of a payload, for n blocks. */
+#define AXP_TRACK_LENGTH(n) (8 * (size_t)(n) + 15)
+#define AXP_IMAGE_SIZE(n) (AXP_TRACKS * AXP_TRACK_LENGTH(n))
+#define AXP_PAYLOAD_SIZE(n) (14 * (size_t)(n))
+
+/* The sizes for 256 blocks: buffers of these sizes serve every record. */
+#define AXP_MAX_IMAGE_SIZE 37134
+#define AXP_MAX_PAYLOAD_SIZE 3584
+
+/* `extra_a` or `extra_b` where no extra track is named. */
+#define AXP_NO_EXTRA 4294967295u
+
+/*
+ * The answers, in checking order: the first whose condition holds is given, and AXP_OK where none
+ * does. The encoder gives AXP_OK and 1 to 3, the reader AXP_OK, 1 to 4 and 7, repairer and tracer all.
+ */
+enum axp_answer {
+    AXP_OK = 0,          /* the result fills the first bytes of the output; later bytes stay */
+    AXP_BLOCK_COUNT = 1, /* the block count is 0 or above 256 */
+    AXP_INPUT_LENGTH = 2,/* the input is not 14n bytes (encoder) or 18 * L bytes (the others) long */
+    AXP_OUTPUT_SHORT = 3,/* the output is shorter than 14n bytes (reader) or 18 * L bytes (the others) */
+    AXP_CELL_VALUE = 4,  /* the image has a cell that is neither 0 nor 1, in a flagged track or not;
+                            `detail` is the index of the first one */
+    AXP_FLAG_BIT = 5,    /* the flag word has a bit from 18 up */
+    AXP_TOO_MANY = 6,    /* more flagged tracks than the code can repair: more than three in a set, or
+                            more than four in all */
+    AXP_NO_RECORD = 7    /* no good record is in reach; for the reader: the image is not good */
+};
+
+/*
+ * What a call returns.
+ *
+ * answer   0 or a number of enum axp_answer.
+ * detail   with AXP_CELL_VALUE the index of the first bad cell in the image, else 0.
+ * mask     from repair and tracing with answer 0: bit g is set exactly if some cell of track number g
+ *          differs between output and image. Else 0.
+ * cells    from repair and tracing with answer 0: the number of cells that differ. Else 0.
+ * extra_a, from tracing with answer 0: the track number (0 to 8 in A, 9 to 17 in B) of the changed
+ * extra_b  track of the set that was not flagged, or AXP_NO_EXTRA where there is none. Else
+ *          AXP_NO_EXTRA.
+ */
+typedef struct axp_result {
+    uint32_t answer;
+    uint32_t detail;
+    uint32_t mask;
+    uint32_t cells;
+    uint32_t extra_a;
+    uint32_t extra_b;
+} axp_result;
+
+/*
+ * All calls
+ *
+ * The caller sees to it that each pointer is valid for its length (a null pointer may stand with
+ * length 0), that input and output do not overlap, and that no other thread writes to either during
+ * the call. Nothing else is presumed: every block count, length, cell value and flag word has an
+ * answer.
+ *
+ * Answers 1 to 6 leave the output as it came. Bytes of the output past the result stay as they came
+ * with every answer.
+ */
+
+/*
+ * Encodes a payload.
+ *
+ * payload  AXP_PAYLOAD_SIZE(blocks) bytes. Byte c of a block goes along track c + 1 of A for c from 0
+ *          to 6 and along track c - 6 of B for c from 7 to 13, its most significant bit first.
+ * out      with answer 0 its first AXP_IMAGE_SIZE(blocks) bytes are the image of the one good record
+ *          that carries the payload.
+ *
+ * Answers: AXP_OK, AXP_BLOCK_COUNT, AXP_INPUT_LENGTH, AXP_OUTPUT_SHORT.
+ */
+axp_result axp_encode(uint32_t blocks, const uint8_t *payload, size_t payload_len, uint8_t *out, size_t out_len);
+
+/*
+ * Reads the payload of a good record.
+ *
+ * image    AXP_IMAGE_SIZE(blocks) bytes, each 0 or 1.
+ * out      with answer 0 its first AXP_PAYLOAD_SIZE(blocks) bytes are the payload. With
+ *          AXP_NO_RECORD, given exactly if the image is not a good record, it stays as it came.
+ *
+ * Answers: AXP_OK, AXP_BLOCK_COUNT, AXP_INPUT_LENGTH, AXP_OUTPUT_SHORT, AXP_CELL_VALUE, AXP_NO_RECORD.
+ */
+axp_result axp_read(uint32_t blocks, const uint8_t *image, size_t image_len, uint8_t *out, size_t out_len);
+
+/*
+ * Repairs the flagged tracks of an image.
+ *
+ * flags    bit g flags track number g: its cells are not trusted.
+ * image    AXP_IMAGE_SIZE(blocks) bytes, each 0 or 1, in flagged tracks too.
+ * out      with answer 0 its first AXP_IMAGE_SIZE(blocks) bytes are the one good record that equals
+ *          the image on every track that is not flagged; there is no other. With AXP_NO_RECORD, given
+ *          exactly if there is no such record, they are a copy of the image.
+ *
+ * Answers: all.
+ */
+axp_result axp_repair(uint32_t blocks, uint32_t flags, const uint8_t *image, size_t image_len, uint8_t *out, size_t out_len);
+
+/*
+ * Repairs the flagged tracks of an image, and extra tracks that were not flagged.
+ *
+ * The flags allow so many extra tracks (flagged tracks in A, in B: extras):
+ *     0,0: one in each set; 1,0 and 0,1 and 1,1: one in all; 2,0: one in B; 0,2: one in A;
+ *     any other pair that is repaired: none.
+ *
+ * out      with answer 0 its first AXP_IMAGE_SIZE(blocks) bytes are the one good record that differs
+ *          from the image only in flagged tracks and in extra tracks so allowed; there is no other.
+ *          With AXP_NO_RECORD, given exactly if there is no such record, they are a copy of the image.
+ *
+ * Answers: all.
+ */
+axp_result axp_trace(uint32_t blocks, uint32_t flags, const uint8_t *image, size_t image_len, uint8_t *out, size_t out_len);
+
+#if defined(__cplusplus) || (defined(__STDC_VERSION__) && __STDC_VERSION__ >= 199901L)
+
+/* The bit of track t of set A, or of set B, in a flag word or a mask. Not proved code. */
+static inline uint32_t axp_flag_a(unsigned t) { return (uint32_t)1 << t; }
+static inline uint32_t axp_flag_b(unsigned t) { return (uint32_t)1 << (9 + t); }
+
+/* A short text for an answer. Not proved code. */
+static inline const char *axp_strerror(uint32_t answer)
+{
+    switch (answer) {
+    case AXP_OK: return "ok";
+    case AXP_BLOCK_COUNT: return "the block count is not 1 to 256";
+    case AXP_INPUT_LENGTH: return "the input has the wrong length";
+    case AXP_OUTPUT_SHORT: return "the output is too short";
+    case AXP_CELL_VALUE: return "a cell is neither 0 nor 1";
+    case AXP_FLAG_BIT: return "the flag word has a bit past the last track";
+    case AXP_TOO_MANY: return "too many flagged tracks";
+    case AXP_NO_RECORD: return "no good record is in reach";
+    default: return "unknown answer";
+    }
+}
+
+#endif
+
+#ifdef __cplusplus
+}
+#endif
+
+#endif

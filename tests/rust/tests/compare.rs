@@ -1,0 +1,309 @@
+//! The shipped archive against document 01's examples and against the second decoder.
+//! Longer runs: AXP_ROUNDS=5000 (rounds a test) and AXP_SEED=7 (the seed; it is printed).
+
+use axp_tests::damage::{damage, Random};
+use axp_tests::ffi::{self, Answer, NO_EXTRA};
+use axp_tests::second::{self, length, size, Rules};
+
+fn setting(name: &str, default: u64) -> u64 {
+    std::env::var(name).ok().and_then(|v| v.parse().ok()).unwrap_or(default)
+}
+
+fn random(test: &str) -> Random {
+    let seed = setting("AXP_SEED", 1);
+    println!("{test}: seed {seed}");
+    Random(seed.wrapping_mul(0x1234_5678_9abc_def1) ^ test.len() as u64)
+}
+
+fn rounds(default: u64) -> u64 {
+    setting("AXP_ROUNDS", default)
+}
+
+fn number(answer: u32, detail: u32) -> Answer {
+    Answer { answer, detail, mask: 0, cells: 0, extra_a: NO_EXTRA, extra_b: NO_EXTRA }
+}
+
+/// An output of some length, filled with bytes that must stay where the document says so.
+fn output(random: &mut Random, len: usize) -> Vec<u8> {
+    random.bytes(len)
+}
+
+/// What document 01 says of repair (extras: false) or tracing: the answer and every byte of the output.
+fn expected(rules: &Rules, blocks: u32, flags: u32, image: &[u8], before: &[u8], extras: bool) -> (Answer, Vec<u8>) {
+    if blocks == 0 || blocks > 256 {
+        return (number(1, 0), before.to_vec());
+    }
+    if image.len() != size(blocks) {
+        return (number(2, 0), before.to_vec());
+    }
+    if before.len() < size(blocks) {
+        return (number(3, 0), before.to_vec());
+    }
+    if let Some(i) = image.iter().position(|&x| x > 1) {
+        return (number(4, i as u32), before.to_vec());
+    }
+    if flags >> 18 != 0 {
+        return (number(5, 0), before.to_vec());
+    }
+    if second::code(flags) == 0 {
+        return (number(6, 0), before.to_vec());
+    }
+    let mut after = before.to_vec();
+    let found = if extras { rules.in_reach(flags, image) } else { rules.peel(flags, image).into_iter().collect() };
+    assert!(found.len() <= 1, "two records in reach");
+    let Some(record) = found.into_iter().next() else {
+        after[..image.len()].copy_from_slice(image);
+        return (number(7, 0), after);
+    };
+    after[..image.len()].copy_from_slice(&record);
+    let (mask, cells) = second::changed(blocks, image, &record);
+    let extra = |set: u32| {
+        let g = (9 * set..9 * set + 9).filter(|g| (mask & !flags) >> g & 1 == 1).collect::<Vec<_>>();
+        assert!(g.len() <= 1);
+        g.first().copied().unwrap_or(NO_EXTRA)
+    };
+    (Answer { answer: 0, detail: 0, mask, cells, extra_a: extra(0), extra_b: extra(1) }, after)
+}
+
+/// Compares both calls on one input, for outputs that are exact and longer.
+fn compare(random: &mut Random, rules: &Rules, blocks: u32, flags: u32, image: &[u8]) {
+    let spare = random.below(20);
+    let before = output(random, image.len() + spare);
+    for extras in [false, true] {
+        let mut out = before.clone();
+        let got = if extras {
+            ffi::trace(blocks, flags, image, &mut out)
+        } else {
+            ffi::repair(blocks, flags, image, &mut out)
+        };
+        let (answer, after) = expected(rules, blocks, flags, image, &before, extras);
+        assert_eq!(got, answer, "blocks {blocks}, flags {flags:#x}, extras {extras}");
+        assert!(out == after, "output of blocks {blocks}, flags {flags:#x}, extras {extras}");
+    }
+}
+
+fn record(random: &mut Random, rules: &Rules, blocks: u32) -> (Vec<u8>, Vec<u8>) {
+    let payload = random.bytes(14 * blocks as usize);
+    let image = second::encode(rules, blocks, &payload);
+    (payload, image)
+}
+
+#[test]
+fn examples() {
+    let l = 23;
+    let a = |m: usize, t: usize| t * l + m;
+    let b = |m: usize, t: usize| (9 + t) * l + m;
+    let ones = |cells: &[usize]| {
+        let mut image = vec![0u8; 18 * l];
+        cells.iter().for_each(|&c| image[c] = 1);
+        image
+    };
+    let mut out = vec![0u8; 18 * l];
+    // Payload 128, then thirteen 0.
+    let mut payload = vec![0u8; 14];
+    payload[0] = 128;
+    assert_eq!(ffi::encode(1, &payload, &mut out), number(0, 0));
+    let first = [a(0, 1), a(1, 0), a(0, 8), a(1, 8), b(14, 0), b(14, 8), b(16, 0), b(16, 8)];
+    assert_eq!(out, ones(&first));
+    assert_eq!(ffi::repair(1, 2, &ones(&first[1..]), &mut out), Answer { mask: 2, cells: 1, ..number(0, 0) });
+    assert_eq!(out, ones(&first));
+    // The others that are proved, run all the same.
+    let two = ones(&[a(0, 1), a(0, 2)]);
+    assert_eq!(ffi::trace(1, 0, &two, &mut out), number(7, 0));
+    assert_eq!(ffi::trace(1, 2, &two, &mut out), Answer { mask: 6, cells: 2, extra_a: 2, ..number(0, 0) });
+    assert_eq!(ffi::repair(1, 0, &ones(&[a(22, 8)]), &mut out), number(7, 0));
+    assert_eq!(ffi::trace(1, 0, &ones(&[a(22, 8)]), &mut out), Answer { mask: 256, cells: 1, extra_a: 8, ..number(0, 0) });
+    assert_eq!(ffi::repair(1, 0, &ones(&[a(8, 3)]), &mut out), number(7, 0));
+    assert_eq!(ffi::repair(1, 526, &ones(&[a(3, 1), b(20, 0)]), &mut out), Answer { mask: 514, cells: 2, ..number(0, 0) });
+    assert_eq!(ffi::repair(1, 15, &ones(&[]), &mut out), number(6, 0));
+    assert_eq!(ffi::repair(1, 1 << 18, &ones(&[]), &mut out), number(5, 0));
+    // Counts 0 and 257, and 256 with 37,134 cells.
+    for blocks in [0, 257, u32::MAX] {
+        assert_eq!(ffi::repair(blocks, 0, &ones(&[]), &mut out), number(1, 0));
+        assert_eq!(ffi::trace(blocks, 0, &ones(&[]), &mut out), number(1, 0));
+        assert_eq!(ffi::encode(blocks, &payload, &mut out), number(1, 0));
+        assert_eq!(ffi::read(blocks, &ones(&[]), &mut out), number(1, 0));
+    }
+    let large = vec![0u8; 37_134];
+    let mut room = vec![1u8; 37_134];
+    assert_eq!(size(256), 37_134);
+    assert_eq!(ffi::repair(256, 0, &large, &mut room), number(0, 0));
+    assert_eq!(room, large);
+    // Cell value 2 first at index 40.
+    let mut image = ones(&[]);
+    image[40] = 2;
+    image[300] = 255;
+    assert_eq!(ffi::repair(1, 0, &image, &mut out), number(4, 40));
+    assert_eq!(ffi::trace(1, 0, &image, &mut out), number(4, 40));
+    assert_eq!(ffi::read(1, &image, &mut out), number(4, 40));
+}
+
+#[test]
+fn every_block_count() {
+    let mut random = random("every block count");
+    for blocks in 1..=256 {
+        let rules = Rules::new(blocks);
+        let (payload, image) = record(&mut random, &rules, blocks);
+        let before = output(&mut random, image.len() + 3);
+        let mut out = before.clone();
+        assert_eq!(ffi::encode(blocks, &payload, &mut out), number(0, 0));
+        assert!(out[..image.len()] == image[..] && out[image.len()..] == before[image.len()..]);
+        let before = output(&mut random, payload.len() + 3);
+        let mut out = before.clone();
+        assert_eq!(ffi::read(blocks, &image, &mut out), number(0, 0));
+        assert!(out[..payload.len()] == payload[..] && out[payload.len()..] == before[payload.len()..]);
+        let flags = random.tracks(3);
+        let mut damaged = image.clone();
+        damage(&mut random, &mut damaged, length(blocks), flags);
+        let mut out = vec![0; image.len()];
+        let answer = ffi::repair(blocks, flags, &damaged, &mut out);
+        assert_eq!(answer.answer, 0);
+        assert!(out == image);
+        assert_eq!((answer.mask, answer.cells), second::changed(blocks, &damaged, &image));
+    }
+}
+
+#[test]
+fn damaged_records() {
+    let mut random = random("damaged records");
+    let all: Vec<Rules> = (0..=12).map(|n| Rules::new(n.max(1))).collect();
+    for _ in 0..rounds(600) {
+        let blocks = 1 + random.below(12) as u32;
+        let rules = &all[blocks as usize];
+        let (_, mut image) = record(&mut random, rules, blocks);
+        let tracks = {
+            let count = random.below(6);
+            random.tracks(count)
+        };
+        damage(&mut random, &mut image, length(blocks), tracks);
+        // Right flags, some missing, some extra, or none.
+        let flags = match random.below(5) {
+            0 => tracks,
+            1 => tracks & random.next() as u32,
+            2 => tracks | 1 << random.below(18),
+            3 => 0,
+            _ => {
+                let count = random.below(5);
+                random.tracks(count)
+            }
+        };
+        compare(&mut random, rules, blocks, flags, &image);
+    }
+}
+
+#[test]
+fn long_records() {
+    let mut random = random("long records");
+    for _ in 0..rounds(600) / 60 {
+        let blocks = 200 + random.below(57) as u32;
+        let rules = Rules::new(blocks);
+        let (_, mut image) = record(&mut random, &rules, blocks);
+        let tracks = {
+            let count = 1 + random.below(3);
+            random.tracks(count)
+        };
+        damage(&mut random, &mut image, length(blocks), tracks);
+        compare(&mut random, &rules, blocks, tracks, &image);
+    }
+}
+
+#[test]
+fn noise() {
+    // Images that are no record at all, with every kind of flags.
+    let mut random = random("noise");
+    let rules = Rules::new(1);
+    for _ in 0..rounds(600) {
+        let image: Vec<u8> = random.bytes(size(1)).iter().map(|x| x & 1).collect();
+        let flags = {
+            let count = random.below(6);
+            random.tracks(count)
+        };
+        compare(&mut random, &rules, 1, flags, &image);
+    }
+}
+
+#[test]
+fn all_flag_words() {
+    let image = vec![0u8; size(1)];
+    let mut out = vec![0u8; size(1)];
+    for flags in 0..1u32 << 18 {
+        let code = second::code(flags);
+        let answer = if code == 0 { 6 } else { 0 };
+        assert_eq!(ffi::repair(1, flags, &image, &mut out), number(answer, 0), "flags {flags:#x}");
+        assert_eq!(ffi::trace(1, flags, &image, &mut out), number(answer, 0), "flags {flags:#x}");
+    }
+    for g in 18..32 {
+        assert_eq!(ffi::repair(1, 1 << g, &image, &mut out), number(5, 0));
+        assert_eq!(ffi::trace(1, 1 << g | 15, &image, &mut out), number(5, 0));
+    }
+}
+
+#[test]
+fn lengths_and_cells() {
+    let mut random = random("lengths and cells");
+    let rules = Rules::new(2);
+    let (payload, image) = record(&mut random, &rules, 2);
+    for (cut, grow) in [(1, 0), (0, 1), (image.len(), 0)] {
+        let mut other = image[..image.len() - cut].to_vec();
+        other.extend(vec![0; grow]);
+        let before = output(&mut random, 5);
+        let mut out = before.clone();
+        assert_eq!(ffi::repair(2, 1 << 20, &other, &mut out), number(2, 0));
+        assert_eq!(ffi::trace(2, 0, &other, &mut out), number(2, 0));
+        assert_eq!(ffi::read(2, &other, &mut out), number(2, 0));
+        assert_eq!(out, before);
+    }
+    for n in [0, 27, 29] {
+        let before = output(&mut random, 3);
+        let mut out = before.clone();
+        assert_eq!(ffi::encode(2, &vec![0; n], &mut out), number(2, 0));
+        assert_eq!(out, before);
+    }
+    let before = output(&mut random, image.len() - 1);
+    let mut out = before.clone();
+    let mut bad = image.clone();
+    bad[7] = 9;
+    assert_eq!(ffi::repair(2, 0, &bad, &mut out), number(3, 0));
+    assert_eq!(ffi::trace(2, 0, &bad, &mut out), number(3, 0));
+    assert_eq!(ffi::encode(2, &payload, &mut out), number(3, 0));
+    assert_eq!(out, before);
+    let mut short = before[..27].to_vec();
+    assert_eq!(ffi::read(2, &bad, &mut short), number(3, 0));
+    assert_eq!(short, before[..27]);
+    // Every cell value above 1, at every place of a track and beyond, in flagged tracks too.
+    for _ in 0..rounds(600) {
+        let mut bad = image.clone();
+        let at = random.below(bad.len());
+        bad[at] = 2 + random.below(254) as u8;
+        let flags = random.next() as u32;
+        compare(&mut random, &rules, 2, flags, &bad);
+        let before = output(&mut random, 30);
+        let mut out = before.clone();
+        assert_eq!(ffi::read(2, &bad, &mut out), number(4, at as u32));
+        assert_eq!(out, before);
+        // A reader's 7: one cell turned over.
+        let mut wrong = image.clone();
+        wrong[at] ^= 1;
+        assert_eq!(ffi::read(2, &wrong, &mut out), number(7, 0));
+        assert_eq!(out, before);
+    }
+}
+
+#[test]
+fn too_many_is_too_many() {
+    // From four blocks up the code is 0 exactly when two good records agree off the flags; below, only one way.
+    let mut random = random("too many");
+    for blocks in [1, 2, 4] {
+        let rules = Rules::new(blocks);
+        for _ in 0..rounds(600) / 30 {
+            let count = random.below(7);
+            let flags = random.tracks(count);
+            let doubt = rules.doubt(flags) > 0;
+            if second::code(flags) != 0 {
+                assert!(!doubt, "flags {flags:#x}");
+            } else if blocks >= 4 {
+                assert!(doubt, "flags {flags:#x}");
+            }
+        }
+    }
+}
