@@ -1,8 +1,8 @@
 -- A record of one track: what the rules see of it.
 use mathlib.Core.Path.{_≡_, refl, sym, _∙_, fun-ext}
 use mathlib.Core.Logic.{_≢_, by-cases, ite, if-pos, if-neg}
-use Prim.Native.Nat.{ℕ, suc, _*_, _-_, _<_, _≤_}
-use native.Mathlib.Decide.{decLe}
+use Prim.Native.Nat.{ℕ, suc, _+_, _*_, _-_, _<_, _≤_}
+use native.Mathlib.Decide.{decLe, ℕ-discrete}
 use native.Mathlib.Omega.{arith}
 use Rattle.code.specs.Record.{
   TrackSet,
@@ -20,6 +20,7 @@ use Rattle.code.specs.Record.{
   diagonal,
   vertical,
 }
+use Rattle.code.specs.Image.{track-number}
 use Rattle.code.proofs.Sums.{back-early, back-zero, sum-zero, sum-one}
 use Rattle.code.proofs.Mono.{mono, mono-hit, mono-miss}
 
@@ -139,3 +140,43 @@ vertical-put sh A i j f A m hi hj = vertical-only _ i f m hi ∙ sym (vertical-o
 vertical-put sh A i j f B m hi hj = refl
 vertical-put sh B i j f A m hi hj = refl
 vertical-put sh B i j f B m hi hj = vertical-only _ i f m hi ∙ sym (vertical-only _ j f m hj)
+
+-- The vertical of the track's set is f, and that of the other set is 0.
+pub vertical-on : (sh : Shape) (s : TrackSet) (t : ℕ) (f : ℕ → ℕ) (m : ℕ) → t < tracks sh s → vertical sh (put s t f) s m ≡ f m
+unfolding vertical put
+vertical-on sh A t f m h = vertical-only _ t f m h
+vertical-on sh B t f m h = vertical-only _ t f m h
+
+pub vertical-off : (sh : Shape) (s : TrackSet) (t : ℕ) (f : ℕ → ℕ) (m : ℕ) → vertical sh (put s t f) (other s) m ≡ 0
+unfolding vertical put
+vertical-off sh A t f m = sum-zero _ _ (λ v h. refl)
+vertical-off sh B t f m = sum-zero _ _ (λ v h. refl)
+
+-- The other set's tracks are 0.
+pub put-other : (s : TrackSet) (t : ℕ) (f : ℕ → ℕ) (v m : ℕ) → put s t f (other s) v m ≡ 0
+unfolding put
+put-other A t f v m = refl
+put-other B t f v m = refl
+
+-- Where f and g are the same, so are the records.
+pub put-same : (s : TrackSet) (t : ℕ) (f g : ℕ → ℕ) (u : TrackSet) (v m : ℕ) → f m ≡ g m → put s t f u v m ≡ put s t g u v m
+unfolding put only
+put-same A t f g A v m e = rw e
+put-same A t f g B v m e = refl
+put-same B t f g A v m e = refl
+put-same B t f g B v m e = rw e
+
+-- Two single cells are the same where they are met alike.
+pub mono-same : (e m e′ m′ : ℕ) → (e ≡ m → e′ ≡ m′) → (e′ ≡ m′ → e ≡ m) → mono e m ≡ mono e′ m′
+mono-same e m e′ m′ f g = by-cases (ℕ-discrete e m)
+    (λ h. mono-hit e m h ∙ sym (mono-hit e′ m′ (f h)))
+    (λ d. mono-miss e m d ∙ sym (mono-miss e′ m′ (λ h. d (g h))))
+
+-- The record by track numbers.
+pub put-number : (sh : Shape) (s : TrackSet) (t : ℕ) (f : ℕ → ℕ) (u : TrackSet) (v m : ℕ) → t < tracks sh s → v < tracks sh u →
+    put s t f u v m ≡ mono (track-number sh s t) (track-number sh u v) * f m
+unfolding put only
+put-number sh A t f A v m h k = refl
+put-number sh A t f B v m h k = rw (mono-miss t (tracks sh A + v) (omega arith)) (omega arith)
+put-number sh B t f A v m h k = rw (mono-miss (tracks sh A + t) v (omega arith)) (omega arith)
+put-number sh B t f B v m h k = rw (mono-same t v (tracks sh A + t) (tracks sh A + v) (λ e. omega arith) (λ e. omega arith))

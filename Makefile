@@ -1,0 +1,77 @@
+# make            the library (build/libaxp.a) and the program (build/axp), proved and built
+# make demo       repairs a damaged sample and shows what was done
+# make test       everything that must pass: proofs, must-fail edits, Rust and C tests
+# make bench      the library beside plain C of the same algorithm; the plot goes to docs/bench.svg
+# make install    PREFIX=/usr/local DESTDIR=
+# make clean
+
+PREFIX ?= /usr/local
+DESTDIR ?=
+CC ?= cc
+CFLAGS ?= -O2
+WARN = -Wall -Wextra -pedantic -Werror
+VERSION = 0.1.0
+
+SOURCES = crates.txt $(shell find crates -name '*.rt' -o -name '*.antt')
+SAMPLE = 16 36900 samples/damaged.img
+
+all: build/libaxp.a build/axp
+
+build:
+	mkdir -p build
+
+build/libaxp.a: $(SOURCES) | build
+	rt staticlib axp_c
+	cp target/staticlib/libaxp_c.a $@
+
+build/axp: $(SOURCES) | build
+	rt check axp
+	cp target/bin/axp $@
+
+build/repair: examples/repair.c include/axp.h build/libaxp.a
+	$(CC) -std=c99 $(CFLAGS) $(WARN) -Iinclude -o $@ examples/repair.c build/libaxp.a
+
+build/picture: tools/picture.c include/axp.h build/libaxp.a
+	$(CC) -std=c99 $(CFLAGS) $(WARN) -Iinclude -o $@ tools/picture.c build/libaxp.a
+
+build/sample: tools/sample.c include/axp.h build/libaxp.a
+	$(CC) -std=c99 $(CFLAGS) $(WARN) -Iinclude -o $@ tools/sample.c build/libaxp.a
+
+demo: build/repair build/picture
+	build/repair $(SAMPLE)
+	build/picture $(SAMPLE) >build/picture.svg
+	@echo 'the record by track and position, damaged and repaired: build/picture.svg'
+
+sample: build/sample
+	build/sample samples/text.txt samples/good.img samples/damaged.img
+
+docs/picture.svg: build/picture samples/damaged.img
+	build/picture $(SAMPLE) >$@
+
+test:
+	.ci/run
+
+# ISA-L is measured too where its header is installed (Debian: libisal-dev).
+ISAL := $(shell printf '\043include <isa-l/erasure_code.h>\n' | $(CC) -E -x c - >/dev/null 2>&1 && echo '-DWITH_ISAL -lisal')
+
+build/bench: bench/bench.c bench/plain.c bench/plain.h include/axp.h build/libaxp.a
+	$(CC) -std=c11 -O3 -Wall -Wextra -Werror -Iinclude -Ibench -o $@ bench/bench.c bench/plain.c build/libaxp.a $(ISAL)
+
+bench: build/bench
+	build/bench docs/bench.svg
+
+build/axp.pc: build
+	printf 'prefix=%s\nName: axp\nDescription: repair of 18-track cartridge records\nVersion: %s\nCflags: -I$${prefix}/include\nLibs: -L$${prefix}/lib -laxp\n' '$(PREFIX)' '$(VERSION)' >$@
+
+install: all build/axp.pc
+	install -d $(DESTDIR)$(PREFIX)/lib/pkgconfig $(DESTDIR)$(PREFIX)/include $(DESTDIR)$(PREFIX)/bin $(DESTDIR)$(PREFIX)/share/man/man1
+	install -m 644 build/libaxp.a $(DESTDIR)$(PREFIX)/lib/libaxp.a
+	install -m 644 include/axp.h $(DESTDIR)$(PREFIX)/include/axp.h
+	install -m 644 build/axp.pc $(DESTDIR)$(PREFIX)/lib/pkgconfig/axp.pc
+	install -m 755 build/axp $(DESTDIR)$(PREFIX)/bin/axp
+	install -m 644 man/axp.1 $(DESTDIR)$(PREFIX)/share/man/man1/axp.1
+
+clean:
+	rm -rf build target tests/rust/target
+
+.PHONY: all demo sample test bench install clean

@@ -1,0 +1,12 @@
+/* The library's algorithm in plain C, written by hand: what the benchmark measures the library against. */
+#ifndef PLAIN_H
+#define PLAIN_H
+
+#include "axp.h"
+
+axp_result plain_encode(uint32_t blocks, const uint8_t *payload, size_t payload_len, uint8_t *out, size_t out_len);
+axp_result plain_read(uint32_t blocks, const uint8_t *image, size_t image_len, uint8_t *out, size_t out_len);
+axp_result plain_repair(uint32_t blocks, uint32_t flags, const uint8_t *image, size_t image_len, uint8_t *out, size_t out_len);
+axp_result plain_trace(uint32_t blocks, uint32_t flags, const uint8_t *image, size_t image_len, uint8_t *out, size_t out_len);
+
+#endif

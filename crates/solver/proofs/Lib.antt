@@ -1,0 +1,5 @@
+pub mod Sets
+pub mod Plans
+pub mod Settling
+pub mod Stepping
+pub mod Advancing

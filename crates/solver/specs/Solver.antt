@@ -1,0 +1,61 @@
+-- What the solver asks and gives.
+use mathlib.Core.Path.{_≡_}
+use mathlib.Core.Bool.{Bool, true, false}
+use mathlib.Core.List.{List}
+use Prim.Native.Nat.{ℕ, _<_, _≤_}
+use lib.Dec.{eqb}
+use lib.ListN.{getD}
+use Rattle.code.specs.Record.{TrackSet, A, B, Shape, data-tracks, tracks, track-length, Cells, Good}
+use Rattle.code.specs.Image.{track-number, cells}
+use Rattle.code.specs.Flags.{TrackFlags, whole, AgreeOff}
+use Rattle.code.specs.Sizes.{shape}
+use Rattle.code.specs.declared.Sizes.{Sizes}
+use Rattle.syndrome.specs.Syndrome.{Kept}
+use Rattle.solver.specs.declared.Plan.{Plan}
+
+-- Flags as a list of marks, one a track number.
+abbrev pub marked : Shape → List ℕ → TrackFlags
+marked sh marks s t = eqb (getD marks (track-number sh s t) 0) 1
+
+-- The plan names track t.
+pub data Named (p : Plan) (t : ℕ) : Type 0 where
+  is-low : t ≡ p .low → Named p t
+  is-high : t ≡ p .high → Named p t
+  is-last : t ≡ p .last → Named p t
+
+-- A plan fits the flags of a set. A number past the set's tracks stands for none.
+-- The lowest flagged track goes by its own diagonal, the highest data track by the other set's, the one left by the vertical.
+pub record Planned (sh : Shape) (f : TrackFlags) (s : TrackSet) (p : Plan) : Type 0 where
+  pub flagged : (t : ℕ) → t < tracks sh s → Named p t → f s t ≡ true
+  pub others : (t : ℕ) → t < tracks sh s → (Named p t → ⊥) → f s t ≡ false
+  pub low-data : p .low < tracks sh s → p .low ≤ data-tracks sh s
+  pub below : p .low < tracks sh s → (t : ℕ) → t < p .low → f s t ≡ false
+  pub high-data : p .high < tracks sh s → (p .low < p .high) × (p .high ≤ data-tracks sh s)
+  pub above : p .high < tracks sh s → (t : ℕ) → p .high < t → t ≤ data-tracks sh s → f s t ≡ false
+
+-- A plan of one flagged track at the most.
+pub record Single (sh : Shape) (s : TrackSet) (p : Plan) : Type 0 where
+  pub no-low : tracks sh s ≤ p .low
+  pub no-high : tracks sh s ≤ p .high
+
+-- Beside three flagged tracks in a set the other set has one at the most.
+pub record Beside (sh : Shape) (a b : Plan) : Type 0 where
+  pub in-a : a .high < tracks sh A → Single sh B b
+  pub in-b : b .high < tracks sh B → Single sh A a
+
+-- The plan of a set.
+abbrev pub plan-of : Plan → Plan → TrackSet → Plan
+plan-of a b A = a
+plan-of a b B = b
+
+-- Only tracks that the plans name were changed.
+pub record Frame (sh : Shape) (a b : Plan) (x y : Cells) : Type 0 where
+  pub same : (s : TrackSet) (t m : ℕ) → t < tracks sh s → m < track-length sh → (Named (plan-of a b s) t → ⊥) → x s t m ≡ y s t m
+
+-- What `solve` gives: true with a good record, or false and there is none.
+pub record Solved (z : Sizes) (a b : Plan) (out after syn : List ℕ) (r : Bool) : Type 0 where
+  pub kept : Kept z after syn
+  pub frame : Frame (shape z) a b (cells (shape z) out) (cells (shape z) after)
+  pub good : r ≡ true → Good (shape z) (cells (shape z) after)
+  pub none : r ≡ false → (f : TrackFlags) (y : Cells) → Planned (shape z) f A a → Planned (shape z) f B b → Beside (shape z) a b →
+      Good (shape z) y → AgreeOff (shape z) (whole f) (cells (shape z) out) y → ⊥

@@ -1,0 +1,127 @@
+-- What the solver's steps give.
+use mathlib.Core.Path.{_≡_}
+use mathlib.Core.Logic.{_≢_}
+use mathlib.Core.Bool.{Bool, true, false}
+use mathlib.Core.List.{List}
+use Prim.Native.Nat.{ℕ, zero, suc, _+_, _*_, _-_, _<_, _≤_, _%_}
+use lib.Dec.{ltb}
+use lib.ListN.{getD}
+use Rattle.code.specs.Record.{TrackSet, other, Shape, data-tracks, tracks, lag, track-length, Cells, diagonal, vertical, Good}
+use Rattle.code.specs.Image.{track-number, cells}
+use Rattle.code.specs.Flags.{TrackFlags}
+use Rattle.code.specs.Reach.{pick}
+use Rattle.code.specs.Sizes.{shape}
+use Rattle.code.specs.declared.Sizes.{Sizes}
+use Rattle.syndrome.specs.Syndrome.{set-of, Kept}
+use Rattle.solver.specs.declared.Plan.{Plan}
+use Rattle.solver.specs.Solver.{Named, Planned, plan-of, Frame}
+
+-- ## Numbers
+
+-- r is the number of data tracks of a set.
+pub record DataTracks (z : Sizes) (s r : ℕ) : Type 0 where
+  pub is : r ≡ data-tracks (shape z) (set-of s)
+  pub small : r ≤ 7
+
+-- r is the track number of a set's track t.
+pub record Number (z : Sizes) (s t r : ℕ) : Type 0 where
+  pub is : r ≡ track-number (shape z) (set-of s) t
+  pub small : r ≤ 9 + t
+
+-- ## One cell
+
+-- d is added modulo 2 to one cell, if its track is below a bound. No other cell is changed.
+pub record Settled (z : Sizes) (bound s t p d : ℕ) (out after syn : List ℕ) : Type 0 where
+  pub kept : Kept z after syn
+  pub here : t < bound → cells (shape z) after (set-of s) t p ≡ (cells (shape z) out (set-of s) t p + d) % 2
+  pub there : (r : TrackSet) (u q : ℕ) → u < tracks (shape z) r → q < track-length (shape z) → (r ≡ set-of s → u ≡ t → q ≡ p → ⊥) →
+      cells (shape z) after r u q ≡ cells (shape z) out r u q
+
+-- What is added to a cell of the tail: track 0 goes by its own diagonal, a data track becomes 0, the vertical track goes by the vertical.
+unfoldable pub tail-sum : Shape → Cells → TrackSet → ℕ → ℕ → ℕ
+tail-sum sh x s zero p = diagonal sh x s p
+tail-sum sh x s (suc t) p = pick (ltb t (data-tracks sh s)) (x s (suc t) p) (vertical sh x s p)
+
+-- Track t goes by its own set's diagonal, by the other set's, by the vertical; its cell in the tail is settled.
+abbrev pub ByOwn : Sizes → ℕ → ℕ → ℕ → List ℕ → List ℕ → List ℕ → Type 0
+ByOwn z s t p out after syn =
+    Settled z (suc (data-tracks (shape z) (set-of s))) s t p (diagonal (shape z) (cells (shape z) out) (set-of s) (p + t)) out after syn
+
+abbrev pub ByOther : Sizes → ℕ → ℕ → ℕ → List ℕ → List ℕ → List ℕ → Type 0
+ByOther z s t p out after syn =
+    Settled z (suc (data-tracks (shape z) (set-of s))) s t p (diagonal (shape z) (cells (shape z) out) (other (set-of s)) (p + (lag (shape z) - t))) out after syn
+
+abbrev pub ByVertical : Sizes → ℕ → ℕ → ℕ → List ℕ → List ℕ → List ℕ → Type 0
+ByVertical z s t p out after syn =
+    Settled z (tracks (shape z) (set-of s)) s t p (vertical (shape z) (cells (shape z) out) (set-of s) p) out after syn
+
+abbrev pub ByTail : Sizes → ℕ → ℕ → ℕ → List ℕ → List ℕ → List ℕ → Type 0
+ByTail z s t p out after syn =
+    Settled z (tracks (shape z) (set-of s)) s t p (tail-sum (shape z) (cells (shape z) out) (set-of s) t p) out after syn
+
+-- ## A working copy x on the way to a good record y
+
+-- They agree before m, and on the tracks that are not flagged.
+pub record Right (sh : Shape) (f : TrackFlags) (y x : Cells) (m : ℕ) : Type 0 where
+  pub before : (s : TrackSet) (t q : ℕ) → t < tracks sh s → q < m → x s t q ≡ y s t q
+  pub clear : (s : TrackSet) (t q : ℕ) → t < tracks sh s → q < track-length sh → f s t ≡ false → x s t q ≡ y s t q
+
+-- They agree on a set before m.
+pub record RightSet (sh : Shape) (y x : Cells) (s : TrackSet) (m : ℕ) : Type 0 where
+  pub cell : (t q : ℕ) → t < tracks sh s → q < m → x s t q ≡ y s t q
+
+-- Wherever x agrees with y, x′ does.
+pub record Still (sh : Shape) (y x x′ : Cells) : Type 0 where
+  pub cell : (s : TrackSet) (t q : ℕ) → t < tracks sh s → q < track-length sh → x s t q ≡ y s t q → x′ s t q ≡ y s t q
+
+-- And x′ agrees with y on a set at m.
+pub record Made (sh : Shape) (y x x′ : Cells) (s : TrackSet) (m : ℕ) : Type 0 where
+  pub still : Still sh y x x′
+  pub cell : (t : ℕ) → t < tracks sh s → x′ s t m ≡ y s t m
+
+-- What the solver knows before it solves m. Beside three flagged tracks the other set is known as a whole.
+pub record Ready (sh : Shape) (f : TrackFlags) (a b : Plan) (y x : Cells) (m : ℕ) : Type 0 where
+  pub planned : (s : TrackSet) → Planned sh f s (plan-of a b s)
+  pub good : Good sh y
+  pub right : Right sh f y x m
+  pub ahead : (s : TrackSet) → plan-of a b s .high < tracks sh s → RightSet sh y x (other s) (track-length sh)
+
+-- ## Steps
+
+-- One set is solved at m.
+pub record Stepped (z : Sizes) (s : ℕ) (p : Plan) (m : ℕ) (out after syn : List ℕ) : Type 0 where
+  pub kept : Kept z after syn
+  pub only : (r : TrackSet) (u q : ℕ) → u < tracks (shape z) r → q < track-length (shape z) → (r ≡ set-of s → Named p u → ⊥) →
+      cells (shape z) after r u q ≡ cells (shape z) out r u q
+  pub made : (f : TrackFlags) (y : Cells) → Planned (shape z) f (set-of s) p → Good (shape z) y →
+      Right (shape z) f y (cells (shape z) out) m →
+      (p .high < tracks (shape z) (set-of s) → RightSet (shape z) y (cells (shape z) out) (other (set-of s)) (track-length (shape z))) →
+      Made (shape z) y (cells (shape z) out) (cells (shape z) after) (set-of s) m
+
+-- Track t of a set is made right before m, if all its other tracks are right and `high` is a track.
+pub record Ahead (z : Sizes) (s t high m : ℕ) (out after syn : List ℕ) : Type 0 where
+  pub kept : Kept z after syn
+  pub only : (r : TrackSet) (u q : ℕ) → u < tracks (shape z) r → q < track-length (shape z) → (r ≡ set-of s → u ≡ t → ⊥) →
+      cells (shape z) after r u q ≡ cells (shape z) out r u q
+  pub right : high < 16 → (y : Cells) → Good (shape z) y →
+      ((u q : ℕ) → u < tracks (shape z) (set-of s) → q < track-length (shape z) → u ≢ t → cells (shape z) out (set-of s) u q ≡ y (set-of s) u q) →
+      RightSet (shape z) y (cells (shape z) after) (set-of s) m
+
+-- Both sets are solved from one position up to another.
+pub record Advanced (z : Sizes) (a b : Plan) (from to : ℕ) (out after syn : List ℕ) : Type 0 where
+  pub kept : Kept z after syn
+  pub frame : Frame (shape z) a b (cells (shape z) out) (cells (shape z) after)
+  pub ready : (f : TrackFlags) (y : Cells) → Ready (shape z) f a b y (cells (shape z) out) from → Ready (shape z) f a b y (cells (shape z) after) to
+
+-- The data are solved, or there is nothing that fits.
+pub record DataSolved (z : Sizes) (a b : Plan) (out after syn : List ℕ) (r : Bool) : Type 0 where
+  pub kept : Kept z after syn
+  pub frame : Frame (shape z) a b (cells (shape z) out) (cells (shape z) after)
+  pub ready : r ≡ true → (f : TrackFlags) (y : Cells) → Ready (shape z) f a b y (cells (shape z) out) 0 →
+      Ready (shape z) f a b y (cells (shape z) after) (z .positions)
+  pub none : r ≡ false → (f : TrackFlags) (y : Cells) → Ready (shape z) f a b y (cells (shape z) out) 0 → ⊥
+
+-- r says whether the four sums at m are 0.
+pub record SumsZero (syn : List ℕ) (l m : ℕ) (r : Bool) : Type 0 where
+  pub yes-zero : r ≡ true → (row : ℕ) → row < 4 → getD syn (row * l + m) 0 ≡ 0
+  pub not-zero : r ≡ false → ((row : ℕ) → row < 4 → getD syn (row * l + m) 0 ≡ 0) → ⊥

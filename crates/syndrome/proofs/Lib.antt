@@ -1,0 +1,7 @@
+pub mod Table
+pub mod Numbered
+pub mod Parts
+pub mod Law
+pub mod Gathering
+pub mod Turning
+pub mod Testing

@@ -1,0 +1,77 @@
+-- `add_stretch` meets its contract: `add_to_row` adds the stretch to each row that the track stands in. Assumes nothing.
+use native.Mathlib.Omega.{arith}
+use borrow.Author.Needs.{needs}
+use Rattle.syndrome.proofs.Law.{on-diagonals, on-vertical}
+use Rattle.syndrome.proofs.add_stretch.Statement.{statement}
+use Rattle.syndrome.proofs.add_stretch.Tie as tie
+
+abbrev start : tie.After-data-tracks → tie.Start
+start c = c .before .before .before .before .before .before .before .before .before
+
+add-lag : tie.Need-add-lag
+add-lag c = search needs
+
+add-lag-2 : tie.Need-add-lag-2
+add-lag-2 c = search needs
+
+add-l : tie.Need-add-l
+add-l c = search needs
+
+add-add-to-row : tie.Need-add-add-to-row
+add-add-to-row c = search needs
+
+add-to-row-requires : tie.Need-add-to-row-requires
+add-to-row-requires c κs = search needs
+
+data-tracks-requires : tie.Need-data-tracks-requires
+data-tracks-requires c κs = search needs
+
+add-to-row-requires-2 : tie.Need-add-to-row-requires-2
+add-to-row-requires-2 c κs =
+    (record { row-small = search needs; off-small = search needs; rows = c .before .before .before .before .before .add-to-row .ensures .rows }, search needs)
+
+sub-add-to-row : tie.Need-sub-add-to-row
+sub-add-to-row c = search needs
+
+sub-add-to-row-2 : tie.Need-sub-add-to-row-2
+sub-add-to-row-2 c = search needs
+
+add-to-row-requires-3 : tie.Need-add-to-row-requires-3
+add-to-row-requires-3 c κs = (record { row-small = search needs; off-small = search needs; rows = c .before .before .before .add-to-row2 .ensures .rows }, search needs)
+
+same-length : tie.Need-same-length
+same-length c = search needs
+
+returns : tie.Need-returns
+returns c =
+    let i = c .before .before .before .before .before .before .before .before in
+    let s = start (i .before) in
+    on-diagonals _ _ _ _ _ _ _ _ (s .pre .0 .set-small) (omega (arith, i .before .data-tracks .ensures .is)) (i .before .before .before .before .add-to-row .ensures)
+    (c .before .before .before .before .before .before .add-to-row2 .ensures) (c .before .before .add-to-row3 .ensures)
+
+same-length-2 : tie.Need-same-length-2
+same-length-2 c = search needs
+
+returns-2 : tie.Need-returns-2
+returns-2 c =
+    let s = start (c .before) in
+    on-vertical _ _ _ _ _ _ (s .pre .0 .set-small) (s .pre .0 .track-small) (omega (arith, c .before .data-tracks .ensures .is)) (c .before .before .before .before .add-to-row .ensures)
+
+pub add-stretch-spec : {M : Type 1} → statement M
+add-stretch-spec =
+    tie.close
+    (tie.spec
+    add-lag
+    add-lag-2
+    add-l
+    add-add-to-row
+    add-to-row-requires
+    data-tracks-requires
+    add-to-row-requires-2
+    sub-add-to-row
+    sub-add-to-row-2
+    add-to-row-requires-3
+    same-length
+    returns
+    same-length-2
+    returns-2)

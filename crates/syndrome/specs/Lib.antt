@@ -1,0 +1,2 @@
+pub mod Syndrome
+pub mod Steps

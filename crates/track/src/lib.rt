@@ -1,0 +1,195 @@
+// Functions on one track's stretch of an image.
+ghost use mathlib.Core.Path.{_≡_};
+ghost use Prim.Native.Nat.{ℕ, suc, _+_, _*_, _-_, _/_, _%_, _^_, _<_, _≤_};
+ghost use lib.ListN.{length, getD};
+ghost use Rattle.code.specs.Calls.{differ};
+ghost use Rattle.code.specs.Numbers.{first-bad};
+ghost use Rattle.code.specs.Payload.{digits};
+ghost use Rattle.code.specs.Record.{sum};
+ghost use Rattle.track.specs.Track.{
+  Bits,
+  Added,
+  Cleared,
+  Copied,
+  Highest,
+  Zeros,
+  differing,
+  Unpacked,
+};
+
+// Adds a track, modulo 2, to an accumulator, its first cell at `off`.
+pub fn add_track(acc: &mut [u8], track: &[u8], off: usize)
+    requires { ⌜ length (now track) ≡ length (now acc) ⌝ }
+    requires { ⌜ off ≤ length (now acc) ⌝ }
+    requires { ⌜ Bits (now acc) ⌝ }
+    requires { ⌜ Bits (now track) ⌝ }
+    ensures { λ _. ⌜ Added (now (acc .entry)) (now (track .entry)) off (now (acc .exit)) ⌝ }
+{
+    let n = acc.len() - off;
+    let mut k = 0;
+    while k < n {
+        acc[k + off] = acc[k + off] ^ track[k];
+        k += 1;
+    }
+}
+
+// Makes every cell 0.
+pub fn clear(acc: &mut [u8])
+    ensures { λ _. ⌜ Cleared (now (acc .entry)) (now (acc .exit)) ⌝ }
+{
+    let n = acc.len();
+    let mut i = 0;
+    while i < n {
+        acc[i] = 0;
+        i += 1;
+    }
+}
+
+// Copies a stretch to the start of another.
+pub fn copy_into(out: &mut [u8], source: &[u8])
+    requires { ⌜ length (now source) ≤ length (now out) ⌝ }
+    ensures { λ _. ⌜ Copied (now (source .entry)) (now (out .entry)) (now (out .exit)) ⌝ }
+{
+    let n = source.len();
+    let mut i = 0;
+    while i < n {
+        out[i] = source[i];
+        i += 1;
+    }
+}
+
+// The highest byte.
+pub fn highest(s: &[u8]) -> u8
+    ensures { λ r. ⌜ Highest (now (s .entry)) r ⌝ }
+{
+    let n = s.len();
+    let mut most: u8 = 0;
+    let mut i = 0;
+    while i < n {
+        let x = s[i];
+        if most < x {
+            most = x;
+        }
+        i += 1;
+    }
+    most
+}
+
+// Is every cell 0?
+pub fn all_zero(s: &[u8]) -> bool
+    ensures { λ r. ⌜ Zeros (now (s .entry)) r ⌝ }
+{
+    highest(s) == 0
+}
+
+// The index of the first cell that is neither 0 nor 1, and the length where there is none.
+pub fn first_bad_cell(s: &[u8]) -> usize
+    ensures { λ r. ⌜ r ≡ first-bad (now (s .entry)) ⌝ }
+{
+    let n = s.len();
+    if highest(s) < 2 {
+        return n;
+    }
+    let mut i = 0;
+    while i < n {
+        if 2 <= s[i] {
+            return i;
+        }
+        i += 1;
+    }
+    n
+}
+
+// The number of places from `from` to before `to` at which two stretches differ: few enough that a byte holds it.
+fn count_few(a: &[u8], b: &[u8], from: usize, to: usize) -> u8
+    requires { ⌜ length (now b) ≡ length (now a) ⌝ }
+    requires { ⌜ to ≤ length (now a) ⌝ }
+    requires { ⌜ from ≤ to ⌝ }
+    requires { ⌜ to ≤ from + 255 ⌝ }
+    ensures { λ r. ⌜ r + from ≤ to ⌝ }
+    ensures { λ r. ⌜ r + sum from (λ (m : ℕ). differ (getD (now (a .entry)) m 0) (getD (now (b .entry)) m 0))
+        ≡ sum to (λ (m : ℕ). differ (getD (now (a .entry)) m 0) (getD (now (b .entry)) m 0)) ⌝ }
+{
+    let mut count: u8 = 0;
+    let mut i = from;
+    while i < to {
+        if a[i] != b[i] {
+            count += 1;
+        }
+        i += 1;
+    }
+    count
+}
+
+// The number of places at which two stretches of one length differ. A block at a time is counted in a byte, which is faster.
+pub fn count_differing(a: &[u8], b: &[u8]) -> usize
+    requires { ⌜ length (now b) ≡ length (now a) ⌝ }
+    ensures { λ r. ⌜ r ≡ differing (now (a .entry)) (now (b .entry)) ⌝ }
+{
+    let n = a.len();
+    let mut count: usize = 0;
+    let mut i = 0;
+    while 224 <= n - i {
+        count += count_few(a, b, i, i + 224) as usize;
+        i += 224;
+    }
+    count + count_few(a, b, i, n) as usize
+}
+
+// The number whose bits are a, b, c and d, the most significant first. One product gathers them.
+fn nibble(a: u8, b: u8, c: u8, d: u8) -> u8
+    requires { ⌜ a < 2 ⌝ }
+    requires { ⌜ b < 2 ⌝ }
+    requires { ⌜ c < 2 ⌝ }
+    requires { ⌜ d < 2 ⌝ }
+    ensures { λ r. ⌜ r < 16 ⌝ }
+    ensures { λ r. ⌜ r ≡ 8 * a + 4 * b + 2 * c + d ⌝ }
+{
+    let x = a as u64 + 0x100 * (b as u64) + 0x1_0000 * (c as u64) + 0x100_0000 * (d as u64);
+    (x * 0x804_0201 / 0x100_0000 % 16) as u8
+}
+
+// The byte whose bits are the eight cells from `at` on, the most significant first.
+pub fn pack(track: &[u8], at: usize) -> u8
+    requires { ⌜ at + 8 ≤ length (now track) ⌝ }
+    requires { ⌜ Bits (now track) ⌝ }
+    ensures { λ r. ⌜ r ≡ digits 8 (λ (k : ℕ). getD (now (track .entry)) (at + k) 0) ⌝ }
+{
+    let high = nibble(track[at], track[at + 1], track[at + 2], track[at + 3]);
+    let low = nibble(track[at + 4], track[at + 5], track[at + 6], track[at + 7]);
+    16 * high + low
+}
+
+// The number whose eight bytes are the bits of `byte`, the most significant first. One product spreads all bits but the last.
+fn spread(byte: u8) -> u64
+    ensures { λ r. ⌜ ((k : ℕ) → k < 8 → r / 256 ^ k % 256 ≡ byte / 2 ^ (8 - suc k) % 2) ⌝ }
+{
+    let b = byte as u64;
+    (b * 0x40_2010_0804_0201 / 0x80 & 0x1_0101_0101_0101) + b % 2 * 0x100_0000_0000_0000
+}
+
+// Writes the bytes of `x` to the eight cells from `at` on, the least significant first. By itself it compiles to one store.
+fn put(track: &mut [u8], at: usize, x: u64)
+    requires { ⌜ at + 8 ≤ length (now track) ⌝ }
+    ensures size { λ _. ⌜ length (now (track .exit)) ≡ length (now (track .entry)) ⌝ }
+    ensures cells { λ _. ⌜ ((k : ℕ) → k < 8 → getD (now (track .exit)) (at + k) 0 ≡ x / 256 ^ k % 256) ⌝ }
+    ensures early { λ _. ⌜ ((i : ℕ) → i < at → getD (now (track .exit)) i 0 ≡ getD (now (track .entry)) i 0) ⌝ }
+    ensures later { λ _. ⌜ ((i : ℕ) → at + 8 ≤ i → getD (now (track .exit)) i 0 ≡ getD (now (track .entry)) i 0) ⌝ }
+{
+    track[at] = (x % 0x100) as u8;
+    track[at + 1] = (x / 0x100 % 0x100) as u8;
+    track[at + 2] = (x / 0x1_0000 % 0x100) as u8;
+    track[at + 3] = (x / 0x100_0000 % 0x100) as u8;
+    track[at + 4] = (x / 0x1_0000_0000 % 0x100) as u8;
+    track[at + 5] = (x / 0x100_0000_0000 % 0x100) as u8;
+    track[at + 6] = (x / 0x1_0000_0000_0000 % 0x100) as u8;
+    track[at + 7] = (x / 0x100_0000_0000_0000 % 0x100) as u8;
+}
+
+// Writes a byte's bits to the eight cells from `at` on, the most significant first.
+pub fn unpack(track: &mut [u8], at: usize, byte: u8)
+    requires { ⌜ at + 8 ≤ length (now track) ⌝ }
+    ensures { λ _. ⌜ Unpacked (now (track .entry)) at byte (now (track .exit)) ⌝ }
+{
+    put(track, at, spread(byte));
+}

@@ -1,0 +1,76 @@
+/*
+ * Repairs one image: the README's example.
+ *
+ *     repair BLOCKS FLAGS IMAGE [OUT]
+ *
+ * BLOCKS and FLAGS are decimal numbers, IMAGE a file of one byte a cell. The program repairs by the flags, traces where
+ * that finds no record, says what was changed, prints the payload as text and, where OUT is named, writes the repaired
+ * image there.
+ */
+#include <axp.h>
+
+#include <stdio.h>
+#include <stdlib.h>
+
+static uint8_t image[AXP_MAX_IMAGE_SIZE + 1], out[AXP_MAX_IMAGE_SIZE], payload[AXP_MAX_PAYLOAD_SIZE];
+
+static void show(const char *call, axp_result r)
+{
+    unsigned g;
+    printf("%s: %s", call, axp_strerror(r.answer));
+    if (r.answer == AXP_CELL_VALUE)
+        printf(" (cell %lu)", (unsigned long)r.detail);
+    if (r.answer == AXP_OK && r.cells > 0) {
+        printf(", %lu cells changed", (unsigned long)r.cells);
+        for (g = 0; g < AXP_TRACKS; g++)
+            if (r.mask >> g & 1)
+                printf(" %c%u%s", g < 9 ? 'A' : 'B', g % 9, r.extra_a == g || r.extra_b == g ? " (not flagged)" : "");
+    }
+    printf("\n");
+}
+
+int main(int argc, char **argv)
+{
+    uint32_t blocks, flags;
+    size_t length, i;
+    axp_result r;
+    FILE *file;
+
+    if (argc < 4) {
+        fprintf(stderr, "usage: repair BLOCKS FLAGS IMAGE [OUT]\n");
+        return 2;
+    }
+    blocks = (uint32_t)strtoul(argv[1], NULL, 10);
+    flags = (uint32_t)strtoul(argv[2], NULL, 10);
+    file = fopen(argv[3], "rb");
+    if (!file) {
+        perror(argv[3]);
+        return 2;
+    }
+    length = fread(image, 1, sizeof image, file);
+    fclose(file);
+
+    r = axp_repair(blocks, flags, image, length, out, sizeof out);
+    show("repair", r);
+    if (r.answer == AXP_NO_RECORD) {
+        r = axp_trace(blocks, flags, image, length, out, sizeof out);
+        show("trace", r);
+    }
+    if (r.answer != AXP_OK)
+        return 1;
+
+    r = axp_read(blocks, out, length, payload, sizeof payload);
+    show("read", r);
+    for (i = 0; i < AXP_PAYLOAD_SIZE(blocks); i++)
+        putchar(payload[i] >= 32 && payload[i] < 127 ? payload[i] : payload[i] == '\n' ? '\n' : '.');
+    printf("\n");
+
+    if (argc > 4) {
+        file = fopen(argv[4], "wb");
+        if (!file || fwrite(out, 1, length, file) != length || fclose(file) != 0) {
+            perror(argv[4]);
+            return 2;
+        }
+    }
+    return 0;
+}

@@ -1,0 +1,59 @@
+/*
+ * Makes the sample: the image of a text, with damage that a drive does.
+ *
+ *     sample TEXT GOOD DAMAGED
+ *
+ * TEXT is encoded, padded with spaces to whole blocks. GOOD is its image. In DAMAGED two tracks of set A hold noise, a
+ * track of set B has a burst and another a lost stretch.
+ */
+#include <axp.h>
+
+#include <stdio.h>
+#include <stdlib.h>
+#include <string.h>
+
+static uint8_t payload[AXP_MAX_PAYLOAD_SIZE], image[AXP_MAX_IMAGE_SIZE];
+static uint32_t state = 7;
+
+static uint8_t bit(void)
+{
+    state = state * 1664525u + 1013904223u;
+    return state >> 31;
+}
+
+static int save(const char *path, size_t size)
+{
+    FILE *f = fopen(path, "wb");
+    return f && fwrite(image, 1, size, f) == size && fclose(f) == 0;
+}
+
+int main(int argc, char **argv)
+{
+    size_t length, l, m, size;
+    uint32_t blocks;
+    FILE *f;
+    if (argc != 4 || !(f = fopen(argv[1], "rb"))) {
+        fprintf(stderr, "usage: sample TEXT GOOD DAMAGED\n");
+        return 2;
+    }
+    memset(payload, ' ', sizeof payload);
+    length = fread(payload, 1, sizeof payload, f);
+    fclose(f);
+    blocks = (uint32_t)((length + 13) / 14);
+    l = AXP_TRACK_LENGTH(blocks);
+    size = AXP_IMAGE_SIZE(blocks);
+    if (axp_encode(blocks, payload, AXP_PAYLOAD_SIZE(blocks), image, sizeof image).answer != AXP_OK || !save(argv[2], size))
+        return 1;
+    for (m = 0; m < l; m++) {
+        image[2 * l + m] ^= bit();
+        image[5 * l + m] ^= bit();
+    }
+    for (m = l / 3; m < l / 2; m++)
+        image[(9 + 3) * l + m] ^= 1;
+    for (m = l / 2; m < l; m++)
+        image[(9 + 6) * l + m] = 0;
+    if (!save(argv[3], size))
+        return 1;
+    printf("%lu blocks\n", (unsigned long)blocks);
+    return 0;
+}
