@@ -3,3 +3,4 @@ pub mod Plans
 pub mod Settling
 pub mod Stepping
 pub mod Advancing
+pub mod Waiting

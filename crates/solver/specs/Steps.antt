@@ -5,12 +5,12 @@ use mathlib.Core.Bool.{Bool, true, false}
 use mathlib.Core.List.{List}
 use Prim.Native.Nat.{ℕ, zero, suc, _+_, _*_, _-_, _<_, _≤_, _%_}
 use lib.Dec.{ltb}
-use lib.ListN.{getD}
+use lib.ListN.{length, getD}
 use Rattle.code.specs.Record.{TrackSet, other, Shape, data-tracks, tracks, lag, track-length, Cells, diagonal, vertical, Good}
 use Rattle.code.specs.Image.{track-number, cells}
 use Rattle.code.specs.Flags.{TrackFlags}
 use Rattle.code.specs.Reach.{pick}
-use Rattle.code.specs.Sizes.{shape}
+use Rattle.code.specs.Sizes.{shape, Small}
 use Rattle.code.specs.declared.Sizes.{Sizes}
 use Rattle.syndrome.specs.Syndrome.{set-of, Kept}
 use Rattle.solver.specs.declared.Plan.{Plan}
@@ -125,3 +125,21 @@ pub record DataSolved (z : Sizes) (a b : Plan) (out after syn : List ℕ) (r : B
 pub record SumsZero (syn : List ℕ) (l m : ℕ) (r : Bool) : Type 0 where
   pub yes-zero : r ≡ true → (row : ℕ) → row < 4 → getD syn (row * l + m) 0 ≡ 0
   pub not-zero : r ≡ false → ((row : ℕ) → row < 4 → getD syn (row * l + m) 0 ≡ 0) → ⊥
+
+-- ## The quiet start
+
+-- The columns from `from` up to `to` are columns of four rows.
+pub record Columns (z : Sizes) (from to : ℕ) (syn : List ℕ) : Type 0 where
+  pub small : Small z
+  pub size : length syn ≡ 4 * track-length (shape z)
+  pub order : from ≤ to
+  pub inside : to ≤ track-length (shape z)
+
+-- r is true only if all their syndromes are 0.
+pub record ColumnsZero (syn : List ℕ) (l from to : ℕ) (r : Bool) : Type 0 where
+  pub zero-at : r ≡ true → (row q : ℕ) → row < 4 → from ≤ q → q < to → getD syn (row * l + q) 0 ≡ 0
+
+-- All syndromes are 0 up to a lag past each position before m.
+pub record Quiet (z : Sizes) (syn : List ℕ) (m : ℕ) : Type 0 where
+  pub within : m ≤ z .positions
+  pub zero-at : (row p q : ℕ) → row < 4 → p < m → q ≤ p + lag (shape z) → getD syn (row * track-length (shape z) + q) 0 ≡ 0

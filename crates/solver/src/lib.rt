@@ -9,20 +9,7 @@ ghost use Rattle.code.specs.Flags.{flag-count};
 ghost use Rattle.code.specs.Sizes.{shape, Small};
 ghost use Rattle.syndrome.specs.Syndrome.{set-of, Kept, IsCell};
 ghost use Rattle.solver.specs.Solver.{marked, Planned, Solved};
-ghost use Rattle.solver.specs.Steps.{
-  DataTracks,
-  Number,
-  Settled,
-  ByOwn,
-  ByOther,
-  ByVertical,
-  ByTail,
-  Stepped,
-  Ahead,
-  Advanced,
-  DataSolved,
-  SumsZero,
-};
+ghost use Rattle.solver.specs.Steps.{DataTracks, Number, Settled, ByOwn, ByOther, ByVertical, ByTail, Stepped, Ahead, Advanced, DataSolved, SumsZero, Columns, ColumnsZero, Quiet};
 
 // Past every track.
 pub const NONE: usize = 16;
@@ -262,6 +249,42 @@ fn ahead(out: &mut [u8], syn: &mut [u8], z: Sizes, s: usize, t: usize, high: usi
     }
 }
 
+// Are all syndromes of the columns from `from` up to `to` 0?
+fn columns_zero(syn: &[u8], z: Sizes, from: usize, to: usize) -> bool
+    requires { ⌜ Columns z from to (now syn) ⌝ }
+    ensures { λ r. ⌜ ColumnsZero (now (syn .entry)) (track-length (shape z)) from to r ⌝ }
+{
+    let l = z.positions + (z.t1 + z.t2 + 1);
+    if !track::all_zero(&syn[from..to]) {
+        return false;
+    }
+    if !track::all_zero(&syn[l + from..l + to]) {
+        return false;
+    }
+    if !track::all_zero(&syn[2 * l + from..2 * l + to]) {
+        return false;
+    }
+    track::all_zero(&syn[3 * l + from..3 * l + to])
+}
+
+// A position before which nothing is to be done: all syndromes are 0, up to a lag past each position.
+fn quiet(syn: &[u8], z: Sizes) -> usize
+    requires { ⌜ Small z ⌝ }
+    requires { ⌜ length (now syn) ≡ 4 * track-length (shape z) ⌝ }
+    ensures { λ r. ⌜ Quiet z (now (syn .entry)) r ⌝ }
+{
+    let positions = z.positions;
+    let lag = z.t1 + z.t2 + 1;
+    let mut m = 0;
+    while m + 64 <= positions {
+        if !columns_zero(syn, z, m, m + 64 + lag) {
+            return m;
+        }
+        m += 64;
+    }
+    m
+}
+
 // The positions of the data. False: a sum that no later position touches is not 0.
 fn solve_data(out: &mut [u8], syn: &mut [u8], z: Sizes, a: Plan, b: Plan) -> bool
     requires { ⌜ Kept z (now out) (now syn) ⌝ }
@@ -269,7 +292,7 @@ fn solve_data(out: &mut [u8], syn: &mut [u8], z: Sizes, a: Plan, b: Plan) -> boo
 {
     let positions = z.positions;
     let l = positions + (z.t1 + z.t2 + 1);
-    let mut m = 0;
+    let mut m = quiet(syn, z);
     while m < positions {
         step(out, syn, z, 0, a, m);
         step(out, syn, z, 1, b, m);

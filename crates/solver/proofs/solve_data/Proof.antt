@@ -4,7 +4,8 @@ use native.Mathlib.Omega.{arith}
 use borrow.Author.Needs.{needs}
 use borrow.Author.Tests.{not-true}
 use Rattle.solver.specs.Steps.{Advanced}
-use Rattle.solver.proofs.Advancing.{advanced-none, advanced-more, data-none, data-done}
+use Rattle.solver.proofs.Advancing.{advanced-more, data-none, data-done}
+use Rattle.solver.proofs.Waiting.{advanced-quiet}
 use Rattle.solver.proofs.solve_data.Statement.{statement}
 use Rattle.solver.proofs.solve_data.Tie as tie
 
@@ -23,8 +24,11 @@ add-l-2 c = search needs
 add-l-3 : tie.Need-add-l-3 Inv-loop μ-loop
 add-l-3 c = search needs
 
+quiet-requires : tie.Need-quiet-requires Inv-loop μ-loop
+quiet-requires c κs = search needs
+
 loop-holds : tie.Need-loop-holds Inv-loop μ-loop
-loop-holds c = (omega arith, advanced-none (c .before .before .before .pre))
+loop-holds c = let q = c .quiet .ensures in (q .within, advanced-quiet (c .before .before .before .before .before .pre) q)
 
 step-requires : tie.Need-step-requires Inv-loop μ-loop
 step-requires c κs = search needs
@@ -81,6 +85,7 @@ solve-data-spec =
     add-l
     add-l-2
     add-l-3
+    quiet-requires
     loop-holds
     step-requires
     step-requires-2
