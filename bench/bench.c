@@ -254,7 +254,7 @@ static void plot(const char *path)
     int count = 0;
     for (int i = 0; i < bar_count; i++)
         count += bars[i].blocks == 256;
-    fprintf(f, "<svg xmlns=\"http://www.w3.org/2000/svg\" width=\"760\" height=\"%d\" font-family=\"sans-serif\" font-size=\"12\">\n", 60 + 34 * count);
+    fprintf(f, "<svg xmlns=\"http://www.w3.org/2000/svg\" width=\"840\" height=\"%d\" font-family=\"sans-serif\" font-size=\"12\">\n", 60 + 34 * count);
     fprintf(f, "<rect width=\"100%%\" height=\"100%%\" fill=\"#ffffff\"/>\n");
     fprintf(f, "<text x=\"10\" y=\"20\">256 blocks: time as a multiple of a copy of the image (logarithmic)</text>\n");
     for (int k = 0; k <= 9; k++)

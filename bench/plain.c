@@ -147,14 +147,19 @@ static void ahead(uint8_t *out, uint8_t *syn, size_t l, size_t s, size_t t)
                 flip(out, syn, l, s, t, p);
 }
 
-static int solve(uint8_t *out, uint8_t *syn, size_t l, uint32_t marks)
+/* A position before which nothing is to be done: all syndromes are 0, up to a lag past each position. */
+static size_t quiet(const uint8_t *syn, size_t l)
 {
-    plan a = make_plan(marks & 0x1ff), b = make_plan(marks >> 9 & 0x1ff);
-    if (a.high != NONE)
-        ahead(out, syn, l, 1, b.last);
-    if (b.high != NONE)
-        ahead(out, syn, l, 0, a.last);
     size_t m = 0;
+    for (; m + 64 <= l - LAG; m += 64)
+        for (size_t row = 0; row < 4; row++)
+            if (!all_zero(syn + row * l + m, 64 + LAG))
+                return m;
+    return m;
+}
+
+static int solve_from(uint8_t *out, uint8_t *syn, size_t l, plan a, plan b, size_t m)
+{
     for (; m < l - LAG; m++) {
         step(out, syn, l, 0, a, m);
         step(out, syn, l, 1, b, m);
@@ -166,6 +171,16 @@ static int solve(uint8_t *out, uint8_t *syn, size_t l, uint32_t marks)
         tail_step(out, syn, l, 1, b, m);
     }
     return is_good(out, syn, l);
+}
+
+static int solve(uint8_t *out, uint8_t *syn, size_t l, uint32_t marks)
+{
+    plan a = make_plan(marks & 0x1ff), b = make_plan(marks >> 9 & 0x1ff);
+    if (a.high != NONE)
+        ahead(out, syn, l, 1, b.last);
+    if (b.high != NONE)
+        ahead(out, syn, l, 0, a.last);
+    return solve_from(out, syn, l, a, b, quiet(syn, l));
 }
 
 static uint32_t count_track(const uint8_t *a, const uint8_t *b, size_t l)

@@ -14,27 +14,40 @@ enum { SIDE = 6, LEFT = 40, TOP = 30 };
 
 static uint8_t image[AXP_MAX_IMAGE_SIZE + 1], out[AXP_MAX_IMAGE_SIZE];
 
-static void draw(const uint8_t *cells, size_t l, uint32_t flags, unsigned top, const char *title, const char *changed)
+/* The cells of one kind, as one path: 0 dark cells, 1 changed cells that are 1, 2 changed cells that are 0. */
+static void path(const uint8_t *cells, size_t l, unsigned top, int kind, const char *style)
 {
     unsigned g;
     size_t m;
-    printf("<text x=\"%d\" y=\"%u\">%s</text>\n", LEFT, top - 10, title);
+    printf("<path %s d=\"", style);
     for (g = 0; g < AXP_TRACKS; g++) {
         unsigned y = top + g * (SIDE + 2) + (g >= 9 ? 8 : 0);
-        printf("<text x=\"%d\" y=\"%u\" text-anchor=\"end\" fill=\"%s\">%c%u</text>\n", LEFT - 6, y + SIDE,
-               flags >> g & 1 ? "#b00020" : "#333333", g < 9 ? 'A' : 'B', g % 9);
         for (m = 0; m < l; m++) {
             size_t i = g * l + m;
             int differs = image[i] != out[i];
-            const char *fill = differs ? changed : cells[i] ? "#223344" : "#e6ebf0";
-            if (differs && !cells[i])
-                printf("<rect x=\"%lu\" y=\"%u\" width=\"%d\" height=\"%d\" fill=\"#ffffff\" stroke=\"%s\"/>\n",
-                       (unsigned long)(LEFT + m * SIDE), y, SIDE - 2, SIDE - 1, changed);
-            else
-                printf("<rect x=\"%lu\" y=\"%u\" width=\"%d\" height=\"%d\" fill=\"%s\"/>\n", (unsigned long)(LEFT + m * SIDE), y,
-                       SIDE - 1, SIDE, fill);
+            if (kind == (differs ? 2 - cells[i] : cells[i] ? 0 : -1))
+                printf("M%lu %uh%dv%dh-%dz", (unsigned long)(LEFT + m * SIDE), y, SIDE - 1, SIDE, SIDE - 1);
         }
     }
+    printf("\"/>\n");
+}
+
+static void draw(const uint8_t *cells, size_t l, uint32_t flags, unsigned top, const char *title, const char *changed)
+{
+    char style[64];
+    unsigned g;
+    printf("<text x=\"%d\" y=\"%u\">%s</text>\n", LEFT, top - 10, title);
+    for (g = 0; g < AXP_TRACKS; g++) {
+        unsigned y = top + g * (SIDE + 2) + (g >= 9 ? 8 : 0);
+        printf("<text x=\"%d\" y=\"%u\" text-anchor=\"end\" fill=\"%s\">%c%u</text>", LEFT - 6, y + SIDE,
+               flags >> g & 1 ? "#b00020" : "#333333", g < 9 ? 'A' : 'B', g % 9);
+        printf("<rect x=\"%d\" y=\"%u\" width=\"%lu\" height=\"%d\" fill=\"#e6ebf0\"/>\n", LEFT, y, (unsigned long)(l * SIDE), SIDE);
+    }
+    path(cells, l, top, 0, "fill=\"#223344\"");
+    sprintf(style, "fill=\"%s\"", changed);
+    path(cells, l, top, 1, style);
+    sprintf(style, "fill=\"#ffffff\" stroke=\"%s\"", changed);
+    path(cells, l, top, 2, style);
 }
 
 int main(int argc, char **argv)

@@ -22,6 +22,7 @@ pub mod Numbers
 pub mod Determined
 pub mod RoundTrip
 pub mod Demands
+pub mod Answering
 pub mod Changed
 pub mod Named
 pub mod Extras

@@ -2,6 +2,7 @@
 //! equations over cell indices, and unknown cells are found by peeling (an equation with one unknown cell gives it) or,
 //! for short records, by elimination, which also tells whether there are two solutions.
 
+use crate::ffi::{Answer, NO_EXTRA};
 use std::collections::HashSet;
 
 pub const TRACKS: usize = 18;
@@ -231,4 +232,46 @@ pub fn changed(blocks: u32, image: &[u8], out: &[u8]) -> (u32, u32) {
         }
     }
     (mask, cells)
+}
+
+/// A number with its detail, no changed cell and no extra.
+pub fn number(answer: u32, detail: u32) -> Answer {
+    Answer { answer, detail, mask: 0, cells: 0, extra_a: NO_EXTRA, extra_b: NO_EXTRA }
+}
+
+/// What document 01 says of repair (extras: false) or tracing: the answer and every byte of the output.
+pub fn expected(rules: &Rules, blocks: u32, flags: u32, image: &[u8], before: &[u8], extras: bool) -> (Answer, Vec<u8>) {
+    if blocks == 0 || blocks > 256 {
+        return (number(1, 0), before.to_vec());
+    }
+    if image.len() != size(blocks) {
+        return (number(2, 0), before.to_vec());
+    }
+    if before.len() < size(blocks) {
+        return (number(3, 0), before.to_vec());
+    }
+    if let Some(i) = image.iter().position(|&x| x > 1) {
+        return (number(4, i as u32), before.to_vec());
+    }
+    if flags >> 18 != 0 {
+        return (number(5, 0), before.to_vec());
+    }
+    if code(flags) == 0 {
+        return (number(6, 0), before.to_vec());
+    }
+    let mut after = before.to_vec();
+    let found = if extras { rules.in_reach(flags, image) } else { rules.peel(flags, image).into_iter().collect() };
+    assert!(found.len() <= 1, "two records in reach");
+    let Some(record) = found.into_iter().next() else {
+        after[..image.len()].copy_from_slice(image);
+        return (number(7, 0), after);
+    };
+    after[..image.len()].copy_from_slice(&record);
+    let (mask, cells) = changed(blocks, image, &record);
+    let extra = |set: u32| {
+        let g = (9 * set..9 * set + 9).filter(|g| (mask & !flags) >> g & 1 == 1).collect::<Vec<_>>();
+        assert!(g.len() <= 1);
+        g.first().copied().unwrap_or(NO_EXTRA)
+    };
+    (Answer { answer: 0, detail: 0, mask, cells, extra_a: extra(0), extra_b: extra(1) }, after)
 }

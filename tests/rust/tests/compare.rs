@@ -2,8 +2,8 @@
 //! Longer runs: AXP_ROUNDS=5000 (rounds a test) and AXP_SEED=7 (the seed; it is printed).
 
 use axp_tests::damage::{damage, Random};
-use axp_tests::ffi::{self, Answer, NO_EXTRA};
-use axp_tests::second::{self, length, size, Rules};
+use axp_tests::ffi::{self, Answer};
+use axp_tests::second::{self, expected, length, number, size, Rules};
 
 fn setting(name: &str, default: u64) -> u64 {
     std::env::var(name).ok().and_then(|v| v.parse().ok()).unwrap_or(default)
@@ -19,50 +19,9 @@ fn rounds(default: u64) -> u64 {
     setting("AXP_ROUNDS", default)
 }
 
-fn number(answer: u32, detail: u32) -> Answer {
-    Answer { answer, detail, mask: 0, cells: 0, extra_a: NO_EXTRA, extra_b: NO_EXTRA }
-}
-
 /// An output of some length, filled with bytes that must stay where the document says so.
 fn output(random: &mut Random, len: usize) -> Vec<u8> {
     random.bytes(len)
-}
-
-/// What document 01 says of repair (extras: false) or tracing: the answer and every byte of the output.
-fn expected(rules: &Rules, blocks: u32, flags: u32, image: &[u8], before: &[u8], extras: bool) -> (Answer, Vec<u8>) {
-    if blocks == 0 || blocks > 256 {
-        return (number(1, 0), before.to_vec());
-    }
-    if image.len() != size(blocks) {
-        return (number(2, 0), before.to_vec());
-    }
-    if before.len() < size(blocks) {
-        return (number(3, 0), before.to_vec());
-    }
-    if let Some(i) = image.iter().position(|&x| x > 1) {
-        return (number(4, i as u32), before.to_vec());
-    }
-    if flags >> 18 != 0 {
-        return (number(5, 0), before.to_vec());
-    }
-    if second::code(flags) == 0 {
-        return (number(6, 0), before.to_vec());
-    }
-    let mut after = before.to_vec();
-    let found = if extras { rules.in_reach(flags, image) } else { rules.peel(flags, image).into_iter().collect() };
-    assert!(found.len() <= 1, "two records in reach");
-    let Some(record) = found.into_iter().next() else {
-        after[..image.len()].copy_from_slice(image);
-        return (number(7, 0), after);
-    };
-    after[..image.len()].copy_from_slice(&record);
-    let (mask, cells) = second::changed(blocks, image, &record);
-    let extra = |set: u32| {
-        let g = (9 * set..9 * set + 9).filter(|g| (mask & !flags) >> g & 1 == 1).collect::<Vec<_>>();
-        assert!(g.len() <= 1);
-        g.first().copied().unwrap_or(NO_EXTRA)
-    };
-    (Answer { answer: 0, detail: 0, mask, cells, extra_a: extra(0), extra_b: extra(1) }, after)
 }
 
 /// Compares both calls on one input, for outputs that are exact and longer.
@@ -167,7 +126,7 @@ fn every_block_count() {
 fn damaged_records() {
     let mut random = random("damaged records");
     let all: Vec<Rules> = (0..=12).map(|n| Rules::new(n.max(1))).collect();
-    for _ in 0..rounds(600) {
+    for _ in 0..rounds(2400) {
         let blocks = 1 + random.below(12) as u32;
         let rules = &all[blocks as usize];
         let (_, mut image) = record(&mut random, rules, blocks);
@@ -194,7 +153,7 @@ fn damaged_records() {
 #[test]
 fn long_records() {
     let mut random = random("long records");
-    for _ in 0..rounds(600) / 60 {
+    for _ in 0..rounds(2400) / 60 {
         let blocks = 200 + random.below(57) as u32;
         let rules = Rules::new(blocks);
         let (_, mut image) = record(&mut random, &rules, blocks);
@@ -212,7 +171,7 @@ fn noise() {
     // Images that are no record at all, with every kind of flags.
     let mut random = random("noise");
     let rules = Rules::new(1);
-    for _ in 0..rounds(600) {
+    for _ in 0..rounds(2400) {
         let image: Vec<u8> = random.bytes(size(1)).iter().map(|x| x & 1).collect();
         let flags = {
             let count = random.below(6);
@@ -271,7 +230,7 @@ fn lengths_and_cells() {
     assert_eq!(ffi::read(2, &bad, &mut short), number(3, 0));
     assert_eq!(short, before[..27]);
     // Every cell value above 1, at every place of a track and beyond, in flagged tracks too.
-    for _ in 0..rounds(600) {
+    for _ in 0..rounds(2400) {
         let mut bad = image.clone();
         let at = random.below(bad.len());
         bad[at] = 2 + random.below(254) as u8;
@@ -295,7 +254,7 @@ fn too_many_is_too_many() {
     let mut random = random("too many");
     for blocks in [1, 2, 4] {
         let rules = Rules::new(blocks);
-        for _ in 0..rounds(600) / 30 {
+        for _ in 0..rounds(2400) / 30 {
             let count = random.below(7);
             let flags = random.tracks(count);
             let doubt = rules.doubt(flags) > 0;

@@ -1,0 +1,102 @@
+//! include/axp.h against the Rattle source that it declares, mechanically: the calls with their parameters, the fields of
+//! the result in order, and the constants. Nothing else checks one against the other.
+
+use std::fs;
+use std::path::Path;
+
+fn file(name: &str) -> String {
+    let path = Path::new(env!("CARGO_MANIFEST_DIR")).join("../..").join(name);
+    fs::read_to_string(&path).unwrap_or_else(|e| panic!("{}: {e}", path.display()))
+}
+
+/// The text without C comments, white space folded.
+fn folded(text: &str) -> String {
+    let mut out = String::new();
+    let mut rest = text;
+    while let Some(i) = rest.find("/*") {
+        out.push_str(&rest[..i]);
+        let end = rest[i..].find("*/").expect("a comment ends");
+        rest = &rest[i + end + 2..];
+    }
+    out.push_str(rest);
+    out.split_whitespace().collect::<Vec<_>>().join(" ")
+}
+
+/// The calls of the source, each as the C declaration that it asks for.
+fn from_source(source: &str) -> Vec<String> {
+    let mut all = Vec::new();
+    for part in source.split("pub extern \"C\" fn ").skip(1) {
+        let name = &part[..part.find('(').unwrap()];
+        let parameters = &part[part.find('(').unwrap() + 1..part.find(')').unwrap()];
+        let result = part[part.find("->").unwrap() + 2..].split_whitespace().next().unwrap();
+        assert_eq!(result, "AxpResult", "{name}");
+        let c: Vec<String> = parameters
+            .split(',')
+            .map(str::trim)
+            .filter(|p| !p.is_empty())
+            .map(|p| {
+                let (n, t) = p.split_once(':').unwrap();
+                match t.trim() {
+                    "u32" => format!("uint32_t {n}"),
+                    "&[u8]" => format!("const uint8_t *{n}, size_t {n}_len"),
+                    "&mut [u8]" => format!("uint8_t *{n}, size_t {n}_len"),
+                    other => panic!("{name}: a parameter of type {other}"),
+                }
+            })
+            .collect();
+        all.push(format!("axp_result {name}({});", c.join(", ")));
+    }
+    all
+}
+
+fn between<'a>(text: &'a str, from: &str, to: &str) -> &'a str {
+    let i = text.find(from).unwrap_or_else(|| panic!("no {from}")) + from.len();
+    &text[i..i + text[i..].find(to).unwrap()]
+}
+
+#[test]
+fn calls() {
+    let header = folded(&file("include/axp.h"));
+    let wanted = from_source(&file("crates/axp_c/src/lib.rt"));
+    assert_eq!(wanted.len(), 4);
+    for call in &wanted {
+        assert!(header.contains(call.as_str()), "include/axp.h does not declare: {call}");
+    }
+    // And it declares no other.
+    assert_eq!(header.matches("axp_result axp_").count(), wanted.len());
+}
+
+#[test]
+fn result() {
+    let header = folded(&file("include/axp.h"));
+    let fields = between(&header, "typedef struct axp_result {", "}");
+    let c: Vec<&str> = fields.split(';').map(str::trim).filter(|f| !f.is_empty()).collect();
+    let source = file("crates/axp_c/src/lib.rt");
+    let declared = between(&source, "#[repr(C)]\npub struct AxpResult {", "}");
+    let rattle: Vec<String> = declared
+        .split(',')
+        .map(str::trim)
+        .filter(|f| !f.is_empty())
+        .map(|f| {
+            let (n, t) = f.strip_prefix("pub ").unwrap().split_once(": ").unwrap();
+            assert_eq!(t, "u32", "{n}");
+            format!("uint32_t {n}")
+        })
+        .collect();
+    assert_eq!(c, rattle);
+}
+
+#[test]
+fn constants() {
+    let header = file("include/axp.h");
+    let source = file("crates/axp_c/src/lib.rt");
+    let none = between(&source, "pub const NO_EXTRA: u32 = ", ";");
+    assert!(header.contains(&format!("#define AXP_NO_EXTRA {none}u")));
+    // The sizes for 256 blocks.
+    assert!(header.contains(&format!("#define AXP_MAX_IMAGE_SIZE {}\n", 18 * (8 * 256 + 15))));
+    assert!(header.contains(&format!("#define AXP_MAX_PAYLOAD_SIZE {}\n", 14 * 256)));
+    // The numbers are document 01's, 0 to 7 in order.
+    let list = folded(between(&header, "enum axp_answer {", "};"));
+    let values: Vec<u32> = list.split(',').map(|e| e.split('=').nth(1).unwrap().trim().parse().unwrap()).collect();
+    assert_eq!(values, (0..8).collect::<Vec<u32>>());
+}
