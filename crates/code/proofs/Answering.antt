@@ -1,4 +1,4 @@
--- Point 1 of the supply: every call answers 0 or one of its numbers.
+-- Point 1 (docs/ASSURANCE.md): every call answers 0 or one of its numbers.
 use mathlib.Core.Path.{_≡_, ap}
 use mathlib.Core.Logic.{_⊎_, inl, inr}
 use mathlib.Core.List.{List, [], _∷_}

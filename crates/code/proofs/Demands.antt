@@ -1,14 +1,13 @@
--- Point 3 of the supply, in its words, of every answer and output that are right for repair or tracing.
-use mathlib.Core.Path.{_≡_, refl, sym, ap, _∙_}
+-- Point 3 (docs/ASSURANCE.md), in its words, of every answer and output that are right for repair or tracing.
+use mathlib.Core.Path.{_≡_, refl, ap}
 use mathlib.Core.Logic.{_⊎_, inl, inr, _≢_}
 use mathlib.Core.List.{List, [], _∷_}
-use Prim.Native.Nat.{ℕ, _+_, _*_, _<_, _≤_}
+use Prim.Native.Nat.{ℕ, _≤_}
 use native.Mathlib.Omega.{arith}
-use lib.ListN.{length, getD}
-use Rattle.code.specs.Record.{TrackSet, A, B, Shape, base, tracks, track-length, Cells, Good, Same}
+use Rattle.code.specs.Record.{TrackSet, Shape, base, Cells, Good, Same}
 use Rattle.code.specs.Image.{image-size, cells}
-use Rattle.code.specs.Flags.{TrackFlags, whole, word-flags, AgreeOff, flag-count}
-use Rattle.code.specs.Reach.{Extra, none, flags-code, InReach, Ambiguous}
+use Rattle.code.specs.Flags.{word-flags, Within}
+use Rattle.code.specs.Reach.{Extra, none, flags-code, Ambiguous}
 use Rattle.code.specs.Numbers.{
   Check,
   count-check,
@@ -22,11 +21,7 @@ use Rattle.code.specs.Numbers.{
 }
 use Rattle.code.specs.Calls.{
   Result,
-  plain,
   Refused,
-  mended,
-  Found,
-  NotFound,
   Mended,
   repair-checks,
   RepairNear,
@@ -35,7 +30,7 @@ use Rattle.code.specs.Calls.{
   trace-named,
   Traced,
 }
-use Rattle.code.proofs.Codes.{code-within}
+use Rattle.code.proofs.Codes.{code-past}
 use Rattle.code.proofs.Numbers.{Through, unrefused, passed-code}
 use Rattle.code.proofs.Reached.{repaired-unique, reached-unique}
 use Rattle.code.proofs.TooMany.{four-blocks}
@@ -64,41 +59,6 @@ module _ (sh : Shape) (near : Cells → Type 0) (named : List ℕ → TrackSet �
   says-0 one (inl a) y g n = (ap (λ (q : Result). q .answer) (a .result), one y _ g (a .good) n (a .reached))
   says-0 one (inr a) y g n = absurd (a .no-record y g n)
 
--- The checks of both calls have the numbers 1 to 6.
-abbrev Unchecked : ℕ → Type 0
-Unchecked k = (k ≢ 1) × (k ≢ 2) × (k ≢ 3) × (k ≢ 4) × (k ≢ 5) × (k ≢ 6)
-
-module _ (n flags : ℕ) (image before : List ℕ) (r : Result) (after : List ℕ) (u : Unchecked (r .answer)) where
-  abbrev f : TrackFlags
-  f = word-flags (base n) flags
-
-  through : (rest : Type 0) → First (repair-checks n flags image before) (Refused r before after) rest → Through (repair-checks n flags image before) rest
-  through rest c = unrefused (repair-checks n flags image before) r before after rest (r .answer) (omega arith) c refl
-
-  -- Repair: the output holds the one good record equal to what was read off the flags, and there is no other; or 7.
-  pub repair-one : Repaired n flags image before r after → (y : Cells) → Good (base n) y → AgreeOff (base n) (whole f) (cells (base n) image) y →
-      (r .answer ≡ 0) × Same (base n) y (cells (base n) after)
-  repair-one c = let t = through _ c in
-      says-0 (base n) (RepairNear (base n) flags image) (λ _ _. none) image before r after
-      (λ x y. repaired-unique (base n) f (cells (base n) image) x y (code-within (base n) f refl (passed-code n flags image before (t .passed)))) (t .done)
-
-  pub repair-none : Repaired n flags image before r after →
-      (r .answer ≡ 7 → (y : Cells) → Good (base n) y → AgreeOff (base n) (whole f) (cells (base n) image) y → ⊥)
-      × (((y : Cells) → Good (base n) y → AgreeOff (base n) (whole f) (cells (base n) image) y → ⊥) → r .answer ≡ 7)
-  repair-none c = says-7 (base n) (RepairNear (base n) flags image) (λ _ _. none) image before r after (through _ c .done)
-
-  -- Tracing: the same for the records in reach.
-  pub trace-one : Traced n flags image before r after → (y : Cells) → Good (base n) y → InReach (base n) (flags-code (base n) f) f (cells (base n) image) y →
-      (r .answer ≡ 0) × Same (base n) y (cells (base n) after)
-  trace-one c = let t = through _ c in
-      says-0 (base n) (TraceNear (base n) flags image) (trace-named (base n) flags image) image before r after
-      (λ x y. reached-unique (base n) f (cells (base n) image) x y refl (passed-code n flags image before (t .passed))) (t .done)
-
-  pub trace-none : Traced n flags image before r after →
-      (r .answer ≡ 7 → (y : Cells) → Good (base n) y → InReach (base n) (flags-code (base n) f) f (cells (base n) image) y → ⊥)
-      × (((y : Cells) → Good (base n) y → InReach (base n) (flags-code (base n) f) f (cells (base n) image) y → ⊥) → r .answer ≡ 7)
-  trace-none c = says-7 (base n) (TraceNear (base n) flags image) (trace-named (base n) flags image) image before r after (through _ c .done)
-
 -- ## Too many
 
 -- A call that met none of numbers 1 to 5 says 6 exactly when the flags' code is 0.
@@ -109,7 +69,7 @@ module _ (n flags : ℕ) (image before : List ℕ) (r : Result) (after : List �
   five-checks : List {1} Check
   five-checks = count-check n ∷ length-check (image-size (base n)) image ∷ room-check (image-size (base n)) before ∷ cell-check image ∷ flag-check (base n) flags ∷ []
 
-  says-6 : (r .answer ≡ 6 → flags-code (base n) (word-flags (base n) flags) ≡ 0) × (flags-code (base n) (word-flags (base n) flags) ≡ 0 → r .answer ≡ 6)
+  pub says-6 : (r .answer ≡ 6 → flags-code (base n) (word-flags (base n) flags) ≡ 0) × (flags-code (base n) (word-flags (base n) flags) ≡ 0 → r .answer ≡ 6)
   unfolding five-checks
   says-6 = go (unrefused five-checks r before after _ (r .answer) (omega arith) c refl .done)
     where
@@ -127,3 +87,47 @@ module _ (n flags : ℕ) (image before : List ℕ) (r : Result) (after : List �
   too-many l =
       let both = four-blocks n (word-flags (base n) flags) l in
       (λ e. both .1 (says-6 .0 e), λ a. says-6 .1 (both .0 a))
+
+  -- Flags within the limit are not too many.
+  pub within-not-6 : Within (base n) (word-flags (base n) flags) → r .answer ≢ 6
+  within-not-6 w e = code-past (base n) (word-flags (base n) flags) (says-6 .0 e) w
+
+-- ## In the words of point 3
+
+-- What is demanded of a call: the output holds the one good record near the image and there is no other; where there is
+-- none, and only then, it says 7.
+pub record Demanded (n : ℕ) (near : Cells → Type 0) (r : Result) (after : List ℕ) : Type 0 where
+  pub the-one : (y : Cells) → Good (base n) y → near y → (r .answer ≡ 0) × Same (base n) y (cells (base n) after)
+  pub held : r .answer ≡ 0 → Good (base n) (cells (base n) after) × near (cells (base n) after)
+  pub if-7 : r .answer ≡ 7 → (y : Cells) → Good (base n) y → near y → ⊥
+  pub then-7 : ((y : Cells) → Good (base n) y → near y → ⊥) → r .answer ≡ 7
+
+module _ (n flags : ℕ) (image before : List ℕ) (r : Result) (after : List ℕ)
+    (u : (r .answer ≢ 1) × (r .answer ≢ 2) × (r .answer ≢ 3) × (r .answer ≢ 4) × (r .answer ≢ 5))
+    (w : Within (base n) (word-flags (base n) flags)) where
+  -- Whichever records count as near, if at most one good record does.
+  demanded : (near : Cells → Type 0) (named : List ℕ → TrackSet → Extra) →
+      ((flags-code (base n) (word-flags (base n) flags) ≡ 0 → ⊥) → (x y : Cells) → Good (base n) x → Good (base n) y → near x → near y → Same (base n) x y) →
+      First (repair-checks n flags image before) (Refused r before after) (Mended (base n) near named image before r after) → Demanded n near r after
+  demanded near named one c = record {
+    the-one = says-0 (base n) near named image before r after (one (passed-code n flags image before (t .passed))) (t .done);
+    held = held (t .done);
+    if-7 = says-7 (base n) near named image before r after (t .done) .0;
+    then-7 = says-7 (base n) near named image before r after (t .done) .1;
+  }
+    where
+      t : Through (repair-checks n flags image before) (Mended (base n) near named image before r after)
+      t = let v = within-not-6 n flags image before r after u near named c w in
+          unrefused (repair-checks n flags image before) r before after _ (r .answer) (omega arith) c refl
+
+      held : Mended (base n) near named image before r after → r .answer ≡ 0 → Good (base n) (cells (base n) after) × near (cells (base n) after)
+      held (inl a) e = (a .good, a .reached)
+      held (inr a) e = absurd (omega (arith, ap (λ (q : Result). q .answer) (a .result)))
+
+  pub repair-demand : Repaired n flags image before r after → Demanded n (RepairNear (base n) flags image) r after
+  repair-demand = demanded (RepairNear (base n) flags image) (λ _ _. none) (λ h x y.
+      repaired-unique (base n) (word-flags (base n) flags) (cells (base n) image) x y w)
+
+  pub trace-demand : Traced n flags image before r after → Demanded n (TraceNear (base n) flags image) r after
+  trace-demand = demanded (TraceNear (base n) flags image) (trace-named (base n) flags image) (λ h x y.
+      reached-unique (base n) (word-flags (base n) flags) (cells (base n) image) x y refl h)

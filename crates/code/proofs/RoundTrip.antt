@@ -1,4 +1,4 @@
--- What the relations of encoder and reader say together (point 2 of the supply).
+-- What the relations of encoder and reader say together (point 2, docs/ASSURANCE.md).
 use mathlib.Core.Path.{_≡_, refl, sym, ap, _∙_}
 use mathlib.Core.Logic.{_⊎_, inl, inr}
 use mathlib.Core.List.{List}
