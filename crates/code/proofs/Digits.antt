@@ -57,7 +57,7 @@ digits-digit (suc k) v l = omega (
 )
 
 -- Bits added modulo 2 are their exclusive or.
-xor-bits : (a b : ℕ) → a < 2 → b < 2 → bitXor a b ≡ (a + b) % 2
+pub xor-bits : (a b : ℕ) → a < 2 → b < 2 → bitXor a b ≡ (a + b) % 2
 xor-bits a b p q = omega (arith, xor-add-and a b, xor-lt 1 a b p q)
 
 -- Digits added modulo 2 are the digits of the exclusive or.

@@ -124,7 +124,7 @@ mask-at (suc n) c k l = by-cases (ℕ-discrete k n)
         omega arith
 
 -- The mask of both sets as one sum over track numbers.
-sum-append : (n k : ℕ) (f : ℕ → ℕ) → sum (n + k) f ≡ sum n f + sum k (λ t. f (n + t))
+pub sum-append : (n k : ℕ) (f : ℕ → ℕ) → sum (n + k) f ≡ sum n f + sum k (λ t. f (n + t))
 unfolding sum
 sum-append n zero f = rw (add-zero n) (sym (add-zero (sum n f)))
 sum-append n (suc k) f = rw (add-suc n k) (omega (arith, sum-append n k f))

@@ -1,6 +1,6 @@
 -- Laws of the checks: a list of bits has no bad cell, and checks that do not apply are passed by.
 use mathlib.Core.Path.{_≡_, refl, sym, ap, _∙_}
-use mathlib.Core.Logic.{inl, inr, _≢_}
+use mathlib.Core.Logic.{inl, inr, ⊎-elim, _≢_}
 use mathlib.Core.Bool.{Bool, true, false}
 use mathlib.Core.List.{List, [], _∷_}
 use Prim.Native.Nat.{ℕ, zero, suc, _+_, _<_, _≤_}
@@ -12,7 +12,7 @@ use Rattle.code.specs.Record.{base}
 use Rattle.code.specs.Flags.{word-flags}
 use Rattle.code.specs.Reach.{pick, flags-code}
 use Rattle.code.specs.Calls.{Result, Refused, repair-checks}
-use Rattle.code.specs.Numbers.{Check, First, Passed, first-bad}
+use Rattle.code.specs.Numbers.{Check, count-check, First, Passed, first-bad}
 
 -- Where the first i cells are bits and cell i is not, the first bad cell is i.
 pub first-bad-at : (xs : List ℕ) (i : ℕ) → i < length xs → ((k : ℕ) → k < i → getD xs k 0 < 2) → 2 ≤ getD xs i 0 → first-bad xs ≡ i
@@ -41,6 +41,10 @@ first-bad-before (x ∷ xs) k h = go k (ltb x 2) refl h (first-bad-before xs)
     go k false e h rest = absurd (omega arith)
     go zero true e h rest = ltb-true _ _ e
     go (suc k) true e h rest = rest k (omega arith)
+
+-- A count from 1 to 256 passes.
+pub counted : (n : ℕ) → n ≢ 0 → n ≤ 256 → ¬ count-check n .applies
+counted n some few = ⊎-elim some (λ many. omega arith)
 
 pub first-passed : (cs : List {1} Check) (right : Check → Type 0) (rest : Type 0) → Passed cs → rest → First cs right rest
 first-passed [] right rest p r = r

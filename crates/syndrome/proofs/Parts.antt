@@ -32,15 +32,15 @@ module _ (xs ys : List ℕ) (a l : ℕ) (room : a + l ≤ length xs) (size : len
   abbrev new : List ℕ
   new = putMid a (a + l - a) xs ys
 
-  put-before : (i : ℕ) → i < a → getD new i 0 ≡ getD xs i 0
+  pub put-before : (i : ℕ) → i < a → getD new i 0 ≡ getD xs i 0
   put-before i h = sym (getD-take a new i 0 h) ∙ ap (λ zs. getD zs i 0) (take-put a (a + l - a) xs ys (omega arith)) ∙ getD-take a xs i 0 h
 
-  put-in : (m : ℕ) → m < l → getD new (a + m) 0 ≡ getD ys m 0
+  pub put-in : (m : ℕ) → m < l → getD new (a + m) 0 ≡ getD ys m 0
   put-in m h =
       ap (λ n. getD new (n + m) 0) (sym (length-take-le a xs (omega arith)))
       ∙ getD-append-add (take a xs) (ys ++ postOf a (a + l - a) xs) m 0 ∙ List·getD-append ys (postOf a (a + l - a) xs) 0 m (omega arith)
 
-  put-after : (i : ℕ) → a + l ≤ i → getD new i 0 ≡ getD xs i 0
+  pub put-after : (i : ℕ) → a + l ≤ i → getD new i 0 ≡ getD xs i 0
   put-after i h = rw e (sym (getD-drop (a + l) new (i - (a + l)) 0) ∙ ap (λ zs. getD zs (i - (a + l)) 0) (drop-put a (a + l) xs ys (omega arith) room size) ∙ getD-drop (a + l) xs (i - (a + l)) 0)
     where
       e : i ≡ a + l + (i - (a + l))

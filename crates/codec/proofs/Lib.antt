@@ -1,0 +1,8 @@
+pub mod Columns
+pub mod Rows
+pub mod Filled
+pub mod Gathered
+pub mod Checks
+pub mod Closing
+pub mod Making
+pub mod Answering
