@@ -50,22 +50,26 @@ pub record Stays (size : ℕ) (before after : List ℕ) : Type 0 where
 
 -- ## Encoder
 
+-- 0: the output's first bytes are the good record that carries the payload; there is one (`same-payload` of proofs/Payloads).
 pub record Encodes (n : ℕ) (payload before : List ℕ) (r : Result) (after : List ℕ) : Type 0 where
   pub result : r ≡ plain 0 0
   pub good : Good (base n) (cells (base n) after)
   pub carries : Carries (base n) n (cells (base n) after) payload
   pub stays : Stays (image-size (base n)) before after
 
+-- It gives 1 to 3.
 abbrev pub encode-checks : ℕ → List ℕ → List ℕ → List {1} Check
 encode-checks n payload before =
     count-check n ∷ length-check (payload-size (base n) n) payload ∷ room-check (image-size (base n)) before ∷ []
 
+-- This answer and this output are right for the encoder.
 abbrev pub Encoded : ℕ → List ℕ → List ℕ → Result → List ℕ → Type 0
 Encoded n payload before r after =
     First (encode-checks n payload before) (Refused r before after) (Encodes n payload before r after)
 
 -- ## Reader
 
+-- 0: the payload fills the output's first bytes.
 pub record Reads (n : ℕ) (image before : List ℕ) (r : Result) (after : List ℕ) : Type 0 where
   pub result : r ≡ plain 0 0
   pub carries : Carries (base n) n (cells (base n) image) after
@@ -76,19 +80,23 @@ pub record NotRead (before : List ℕ) (r : Result) (after : List ℕ) : Type 0 
   pub result : r ≡ plain 7 0
   pub output : after ≡ before
 
+-- Which of the two: whether the image is good.
 abbrev pub ReadOrNot : ℕ → List ℕ → List ℕ → Result → List ℕ → Type 0
 ReadOrNot n image before r after =
     Decides (Good (base n) (cells (base n) image)) (Reads n image before r after) (NotRead before r after)
 
+-- It gives 1 to 4 and 7.
 abbrev pub read-checks : ℕ → List ℕ → List ℕ → List {1} Check
 read-checks n image before =
     count-check n ∷ length-check (image-size (base n)) image ∷ room-check (payload-size (base n) n) before ∷ cell-check image ∷ []
 
+-- Right for the reader.
 abbrev pub WasRead : ℕ → List ℕ → List ℕ → Result → List ℕ → Type 0
 WasRead n image before r after = First (read-checks n image before) (Refused r before after) (ReadOrNot n image before r after)
 
 -- ## Changed cells
 
+-- 1 where two cells differ.
 abbrev pub differ : ℕ → ℕ → ℕ
 differ x y = pick (eqb x y) 0 1
 
@@ -96,6 +104,7 @@ differ x y = pick (eqb x y) 0 1
 unfoldable pub changed-in : Shape → Cells → Cells → TrackSet → ℕ → ℕ
 changed-in sh x y s t = sum (track-length sh) (λ m. differ (x s t m) (y s t m))
 
+-- A sum over all tracks of both sets.
 abbrev pub over-tracks : Shape → (TrackSet → ℕ → ℕ) → ℕ
 over-tracks sh f = sum (tracks sh A) (f A) + sum (tracks sh B) (f B)
 
@@ -149,7 +158,7 @@ abbrev pub Mended : Shape → (Cells → Type 0) → (List ℕ → TrackSet → 
 Mended sh near named image before r after =
     Found sh near (named after) image before r after ⊎ NotFound sh near image before r after
 
--- The checks of both calls.
+-- Both calls give 1 to 6 first, then 0 or 7.
 abbrev pub repair-checks : ℕ → ℕ → List ℕ → List ℕ → List {1} Check
 repair-checks n flags image before =
     count-check n
@@ -164,6 +173,7 @@ repair-checks n flags image before =
 abbrev pub RepairNear : Shape → ℕ → List ℕ → Cells → Type 0
 RepairNear sh flags image = AgreeOff sh (whole (word-flags sh flags)) (cells sh image)
 
+-- Right for the repairer.
 abbrev pub Repaired : ℕ → ℕ → List ℕ → List ℕ → Result → List ℕ → Type 0
 Repaired n flags image before r after =
     First
@@ -178,6 +188,7 @@ TraceNear sh flags image = InReach sh (flags-code sh (word-flags sh flags)) (wor
 abbrev pub trace-named : Shape → ℕ → List ℕ → List ℕ → TrackSet → Extra
 trace-named sh flags image after s = changed-extra sh (word-flags sh flags) (cells sh image) (cells sh after) s (tracks sh s)
 
+-- Right for the tracer.
 abbrev pub Traced : ℕ → ℕ → List ℕ → List ℕ → Result → List ℕ → Type 0
 Traced n flags image before r after =
     First

@@ -7,10 +7,10 @@ use native.Mathlib.Decide.{decLe, decLt}
 use native.Mathlib.Numerals.{add-one}
 use native.Mathlib.Omega.{arith}
 use Rattle.code.specs.Record.{TrackSet, Shape, data-tracks, tracks, sum}
-use Rattle.code.specs.Flags.{TrackFlags, bit}
+use Rattle.code.specs.Flags.{TrackFlags, bit, flag-count}
 use Rattle.code.proofs.Patterns.{but-for}
 use Rattle.solver.specs.declared.Plan.{Plan}
-use Rattle.solver.specs.Solver.{Named, is-low, is-high, is-last, Planned}
+use Rattle.solver.specs.Solver.{Named, is-low, is-high, is-last, Planned, Fills}
 
 -- The marks below n.
 abbrev pub count : ℕ → (ℕ → Bool) → ℕ
@@ -155,3 +155,12 @@ module _ (sh : Shape) (f : TrackFlags) (s : TrackSet) (few : tracks sh s ≤ 16)
         high-data = λ l. (omega arith, omega arith);
         above = λ l t h b. n .rest t (omega arith) (omega arith) (omega arith) (omega arith);
       }
+
+  -- The tracks that such plans have at least.
+  pub fills-two : Fills sh f s (record { low = j; high = 16; last = k })
+  unfolding flag-count
+  fills-two = record { two = λ l. n .j-mark (omega arith) .3; three = λ l. absurd (omega arith) }
+
+  pub fills-three : i ≢ 16 → (p : Plan) → Fills sh f s p
+  unfolding flag-count
+  fills-three a p = let m = n .i-mark (omega (arith, n .i-most)) in record { two = λ l. omega arith; three = λ l. m .3 }

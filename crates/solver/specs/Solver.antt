@@ -7,7 +7,7 @@ use lib.Dec.{eqb}
 use lib.ListN.{getD}
 use Rattle.code.specs.Record.{TrackSet, A, B, Shape, data-tracks, tracks, track-length, Cells, Good}
 use Rattle.code.specs.Image.{track-number, cells}
-use Rattle.code.specs.Flags.{TrackFlags, whole, AgreeOff}
+use Rattle.code.specs.Flags.{TrackFlags, whole, flag-count, AgreeOff}
 use Rattle.code.specs.Sizes.{shape}
 use Rattle.code.specs.declared.Sizes.{Sizes}
 use Rattle.syndrome.specs.Syndrome.{Kept}
@@ -32,6 +32,11 @@ pub record Planned (sh : Shape) (f : TrackFlags) (s : TrackSet) (p : Plan) : Typ
   pub below : p .low < tracks sh s → (t : ℕ) → t < p .low → f s t ≡ false
   pub high-data : p .high < tracks sh s → (p .low < p .high) × (p .high ≤ data-tracks sh s)
   pub above : p .high < tracks sh s → (t : ℕ) → p .high < t → t ≤ data-tracks sh s → f s t ≡ false
+
+-- A plan with a lowest track is one of two flagged tracks at least, and one with a highest is one of three.
+pub record Fills (sh : Shape) (f : TrackFlags) (s : TrackSet) (p : Plan) : Type 0 where
+  pub two : p .low < tracks sh s → 2 ≤ flag-count sh f s
+  pub three : p .high < tracks sh s → 3 ≤ flag-count sh f s
 
 -- A plan of one flagged track at the most.
 pub record Single (sh : Shape) (s : TrackSet) (p : Plan) : Type 0 where

@@ -8,7 +8,7 @@ ghost use Rattle.code.specs.Image.{all-tracks, cells};
 ghost use Rattle.code.specs.Flags.{flag-count};
 ghost use Rattle.code.specs.Sizes.{shape, Small};
 ghost use Rattle.syndrome.specs.Syndrome.{set-of, Kept, IsCell};
-ghost use Rattle.solver.specs.Solver.{marked, Planned, Solved};
+ghost use Rattle.solver.specs.Solver.{marked, Planned, Fills, Solved};
 ghost use Rattle.solver.specs.Steps.{DataTracks, Number, Settled, ByOwn, ByOther, ByVertical, ByTail, Stepped, Ahead, Advanced, DataSolved, SumsZero, Columns, ColumnsZero, Quiet};
 
 // Past every track.
@@ -51,6 +51,7 @@ pub fn make_plan(marks: &[u8], z: Sizes, s: usize) -> Plan
     requires { ⌜ all-tracks (shape z) ≤ length (now marks) ⌝ }
     requires { ⌜ flag-count (shape z) (marked (shape z) (now marks)) (set-of s) ≤ 3 ⌝ }
     ensures { λ r. ⌜ Planned (shape z) (marked (shape z) (now (marks .entry))) (set-of s) r ⌝ }
+    ensures { λ r. ⌜ Fills (shape z) (marked (shape z) (now (marks .entry))) (set-of s) r ⌝ }
 {
     let data = data_of(z, s);
     let first = number_of(z, s, 0);

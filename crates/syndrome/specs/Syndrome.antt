@@ -25,7 +25,7 @@ pub record Holds (sh : Shape) (x : Cells) (syn : List ℕ) : Type 0 where
   pub diagonals : (s : TrackSet) (m : ℕ) → m < track-length sh → getD syn (row-of s * track-length sh + m) 0 ≡ diagonal sh x s m % 2
   pub verticals : (s : TrackSet) (m : ℕ) → m < track-length sh → getD syn ((2 + row-of s) * track-length sh + m) 0 ≡ vertical sh x s m % 2
 
--- A list whose first bytes are an image of bits. Later bytes are not looked at.
+-- A list that is an image of bits.
 pub record Image (sh : Shape) (image : List ℕ) : Type 0 where
   pub size : length image ≡ image-size sh
   pub bits : (i : ℕ) → getD image i 0 < 2

@@ -17,7 +17,7 @@ use Rattle.code.proofs.Sums.{sum-same}
 use Rattle.syndrome.specs.Syndrome.{set-of}
 use Rattle.solver.specs.Solver.{marked}
 use Rattle.solver.proofs.Sets.{number-from}
-use Rattle.solver.proofs.Plans.{count, count-le, Newest, newest-none, newest-same, newest-next, newest-by, plan-two, plan-vertical, plan-three}
+use Rattle.solver.proofs.Plans.{count, count-le, Newest, newest-none, newest-same, newest-next, newest-by, plan-two, plan-vertical, plan-three, fills-two, fills-three}
 use Rattle.solver.proofs.make_plan.Statement.{statement}
 use Rattle.solver.proofs.make_plan.Tie as tie
 
@@ -119,16 +119,25 @@ loop-again c =
     )
 
 returns : tie.Need-returns Inv-loop μ-loop
-returns c = plan-two _ _ _ (small (c .before)) _ _ _ (seen (c .before)) (c .if2 .taken)
+returns c = (
+  plan-two _ _ _ (small (c .before)) _ _ _ (seen (c .before)) (c .if2 .taken),
+  fills-two _ _ _ (small (c .before)) _ _ _ (seen (c .before)),
+)
 
 add-if3 : tie.Need-add-if3 Inv-loop μ-loop
 add-if3 c = search needs
 
 returns-2 : tie.Need-returns-2 Inv-loop μ-loop
-returns-2 c = plan-vertical _ _ _ (small (c .before .before)) _ _ _ (seen (c .before .before)) (c .before .if2 .left) (c .if3 .taken ∙ top (c .before .before))
+returns-2 c = (
+  plan-vertical _ _ _ (small (c .before .before)) _ _ _ (seen (c .before .before)) (c .before .if2 .left) (c .if3 .taken ∙ top (c .before .before)),
+  fills-three _ _ _ (small (c .before .before)) _ _ _ (seen (c .before .before)) (c .before .if2 .left) _,
+)
 
 returns-3 : tie.Need-returns-3 Inv-loop μ-loop
-returns-3 c = plan-three _ _ _ (small (c .before .before)) _ _ _ (seen (c .before .before)) (c .before .if2 .left) (λ e. c .if3 .left (e ∙ sym (top (c .before .before))))
+returns-3 c = (
+  plan-three _ _ _ (small (c .before .before)) _ _ _ (seen (c .before .before)) (c .before .if2 .left) (λ e. c .if3 .left (e ∙ sym (top (c .before .before)))),
+  fills-three _ _ _ (small (c .before .before)) _ _ _ (seen (c .before .before)) (c .before .if2 .left) _,
+)
 
 pub make-plan-spec : {M : Type 1} → statement M
 make-plan-spec =

@@ -1,0 +1,82 @@
+// The library for C: numbers and byte slices in, a struct of numbers out. include/axp.h declares these calls.
+use code::Answer;
+use code::Extra;
+ghost use mathlib.Core.Path.{_≡_};
+ghost use Rattle.code.specs.Calls.{Encoded, WasRead, Repaired, Traced};
+ghost use Rattle.code.specs.Answers.{extra-of, result-of};
+ghost use Rattle.code.proofs.Extras.{Numbered, ExtrasNumbered};
+ghost use Rattle.axp_c.specs.Result.{c-extra, c-result};
+
+// AXP_NO_EXTRA.
+pub const NO_EXTRA: u32 = 4294967295;
+
+// axp_result.
+#[repr(C)]
+pub struct AxpResult {
+    pub answer: u32,
+    pub detail: u32,
+    pub mask: u32,
+    pub cells: u32,
+    pub extra_a: u32,
+    pub extra_b: u32,
+}
+
+// The number of an extra.
+fn extra_number(e: Extra) -> u32
+    requires { ⌜ Numbered (extra-of e) ⌝ }
+    ensures { λ r. ⌜ c-extra r ≡ extra-of e ⌝ }
+{
+    match e {
+        Extra::None => NO_EXTRA,
+        Extra::Track(g) => g,
+    }
+}
+
+// An answer as C has it.
+fn for_c(r: Answer) -> AxpResult
+    requires { ⌜ ExtrasNumbered (result-of r) ⌝ }
+    ensures { λ q. ⌜ c-result q ≡ result-of r ⌝ }
+{
+    let a = r.a;
+    let b = r.b;
+    AxpResult {
+        answer: r.number,
+        detail: r.detail,
+        mask: r.mask,
+        cells: r.cells,
+        extra_a: extra_number(a),
+        extra_b: extra_number(b),
+    }
+}
+
+// Encoder.
+#[no_mangle]
+pub extern "C" fn axp_encode(blocks: u32, payload: &[u8], out: &mut [u8]) -> AxpResult
+    ensures { λ r. ⌜ Encoded blocks (now (payload .entry)) (now (out .entry)) (c-result r) (now (out .exit)) ⌝ }
+{
+    for_c(codec::encode(blocks, payload, out))
+}
+
+// Reader.
+#[no_mangle]
+pub extern "C" fn axp_read(blocks: u32, image: &[u8], out: &mut [u8]) -> AxpResult
+    ensures { λ r. ⌜ WasRead blocks (now (image .entry)) (now (out .entry)) (c-result r) (now (out .exit)) ⌝ }
+{
+    for_c(codec::read(blocks, image, out))
+}
+
+// Repairer.
+#[no_mangle]
+pub extern "C" fn axp_repair(blocks: u32, flags: u32, image: &[u8], out: &mut [u8]) -> AxpResult
+    ensures { λ r. ⌜ Repaired blocks flags (now (image .entry)) (now (out .entry)) (c-result r) (now (out .exit)) ⌝ }
+{
+    for_c(repair::repair(blocks, flags, image, out))
+}
+
+// Tracer.
+#[no_mangle]
+pub extern "C" fn axp_trace(blocks: u32, flags: u32, image: &[u8], out: &mut [u8]) -> AxpResult
+    ensures { λ r. ⌜ Traced blocks flags (now (image .entry)) (now (out .entry)) (c-result r) (now (out .exit)) ⌝ }
+{
+    for_c(repair::trace(blocks, flags, image, out))
+}

@@ -1,0 +1,102 @@
+-- Flags: those that say the same, and plans for flags within the limit.
+use mathlib.Core.Path.{_≡_, refl, sym, ap, ap₂, _∙_}
+use mathlib.Core.Logic.{_≢_, by-cases}
+use mathlib.Core.Bool.{Bool, true, false, _||_, true≢false}
+use mathlib.Core.List.{List}
+use Prim.Native.Nat.{ℕ, _+_, _<_, _≤_}
+use native.Mathlib.Decide.{decLe}
+use native.Mathlib.Omega.{arith}
+use lib.Dec.{eqb}
+use Rattle.code.specs.Record.{TrackSet, A, B, closed-tail, Shape, tracks, Cells}
+use Rattle.code.specs.Flags.{TrackFlags, whole, bit, word-flags, flag-count, AgreeOff, Within}
+use Rattle.code.specs.Reach.{reach-code, flags-code, is, Choice, Allowed, with-extras, InReach}
+use Rattle.code.specs.Sizes.{shape, Small}
+use Rattle.code.specs.declared.Sizes.{Sizes}
+use Rattle.code.proofs.Codes.{code-room, closed-within}
+use Rattle.code.proofs.Places.{number-lt}
+use Rattle.code.proofs.Reached.{count-extras}
+use Rattle.code.proofs.Sums.{sum-same}
+use Rattle.solver.specs.declared.Plan.{Plan}
+use Rattle.solver.specs.Solver.{marked, Planned, Fills, Single, Beside, plan-of, Frame}
+use Rattle.repair.specs.Steps.{Marks}
+
+-- ## Flags that say the same of a record's tracks
+
+abbrev pub SameFlags : Shape → TrackFlags → TrackFlags → Type 0
+SameFlags sh f g = (s : TrackSet) (t : ℕ) → t < tracks sh s → f s t ≡ g s t
+
+-- The marks of a flag word are its flags.
+pub marks-same : (z : Sizes) (flags : ℕ) (marks : List ℕ) → Small z → Marks flags marks → SameFlags (shape z) (marked (shape z) marks) (word-flags (shape z) flags)
+marks-same z flags marks small m s t l = ap (λ (v : ℕ). eqb v 1) (m .marks-at _ (omega (arith, number-lt (shape z) s t l)))
+
+module _ (sh : Shape) (f g : TrackFlags) (same : SameFlags sh f g) where
+  count-same : (s : TrackSet) → flag-count sh f s ≡ flag-count sh g s
+  unfolding flag-count
+  count-same s = sum-same (tracks sh s) _ _ (λ t l. ap bit (same s t l))
+
+  pub code-same : flags-code sh f ≡ flags-code sh g
+  unfolding flags-code
+  code-same = ap₂ reach-code (count-same A) (count-same B)
+
+  pub within-same : sh .closing ≡ closed-tail → Within sh f → Within sh g
+  within-same c w = closed-within sh g c
+      (omega (arith, count-same A, w .in-set A))
+      (omega (arith, count-same B, w .in-set B))
+      (omega (arith, count-same A, count-same B, w .in-all))
+
+  pub agree-same : (x y : Cells) → AgreeOff sh (whole f) x y → AgreeOff sh (whole g) x y
+  agree-same x y a = record { cell = λ s t m l b e. a .cell s t m l b (same s t l ∙ e) }
+
+  pub extras-same : (e : Choice) → SameFlags sh (with-extras f e) (with-extras g e)
+  extras-same e s t l = ap (λ (b : Bool). b || is (e s) t) (same s t l)
+
+  pub allowed-same : (code : ℕ) (e : Choice) → Allowed sh code f e → Allowed sh code g e
+  allowed-same code e a = record {
+    in-set = a .in-set;
+    in-all = a .in-all;
+    track = a .track;
+    unflagged = λ s t h. sym (same s t (a .track s t h)) ∙ a .unflagged s t h;
+  }
+
+pub reach-same : (sh : Shape) (f g : TrackFlags) → SameFlags sh f g → (code : ℕ) (x y : Cells) → InReach sh code f x y → InReach sh code g x y
+reach-same sh f g same code x y r = record {
+  choice = r .choice;
+  allowed = allowed-same sh f g same code (r .choice) (r .allowed);
+  agree = agree-same sh _ _ (extras-same sh f g same (r .choice)) x y (r .agree);
+}
+
+-- ## The limit
+
+-- Flags with the extras of a choice that their code allows are within the limit.
+pub allowed-within : (sh : Shape) (f : TrackFlags) (e : Choice) → sh .closing ≡ closed-tail → flags-code sh f ≢ 0 → Allowed sh (flags-code sh f) f e →
+    Within sh (with-extras f e)
+unfolding flags-code
+allowed-within sh f e c n a =
+    let room = code-room _ _ n in
+    closed-within sh (with-extras f e) c
+    (omega (arith, count-extras sh f e A, a .in-set A))
+    (omega (arith, count-extras sh f e B, a .in-set B))
+    (omega (arith, count-extras sh f e A, count-extras sh f e B, a .in-all))
+
+module _ (sh : Shape) (f : TrackFlags) where
+  not-below : (a n : ℕ) → (a < n → ⊥) → n ≤ a
+  not-below a n h = by-cases (decLe n a) (λ l. l) (λ d. absurd (h (omega arith)))
+
+  single : (s : TrackSet) (p : Plan) → Fills sh f s p → flag-count sh f s ≤ 1 → Single sh s p
+  single s p n h = record {
+    no-low = not-below _ _ (λ l. omega (arith, n .two l));
+    no-high = not-below _ _ (λ l. omega (arith, n .three l));
+  }
+
+  -- Plans for flags within the limit: beside three in a set there is at most one in the other.
+  pub beside : (a b : Plan) → Within sh f → Fills sh f A a → Fills sh f B b → Beside sh a b
+  beside a b w p q = record {
+    in-a = λ l. single B b q (omega (arith, p .three l, w .in-all));
+    in-b = λ l. single A a p (omega (arith, q .three l, w .in-all));
+  }
+
+  -- Tracks that no plan names are not changed, so those that are not flagged are not.
+  pub frame-agree : (a b : Plan) (x y : Cells) → ((s : TrackSet) → Planned sh f s (plan-of a b s)) → Frame sh a b x y → AgreeOff sh (whole f) x y
+  frame-agree a b x y p n = record {
+    cell = λ s t m l b e. n .same s t m l b (λ h. true≢false (sym (p s .flagged t l h) ∙ e));
+  }

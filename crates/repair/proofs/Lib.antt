@@ -1,0 +1,9 @@
+pub mod Words
+pub mod Stretches
+pub mod Naming
+pub mod Flagging
+pub mod Choices
+pub mod Working
+pub mod Searching
+pub mod Records
+pub mod Calling

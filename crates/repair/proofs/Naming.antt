@@ -1,0 +1,48 @@
+-- The extras that are named.
+use mathlib.Core.Path.{_≡_, refl, sym, ap, ap₂, _∙_}
+use mathlib.Core.Logic.{_≢_}
+use mathlib.Core.Bool.{Bool}
+use mathlib.Core.List.{List}
+use Prim.Native.Nat.{ℕ, zero, suc, _+_, _-_, _<_, _≤_}
+use native.Mathlib.Omega.{arith}
+use borrow.Author.Tests.{eq-eqb, ne-eqb}
+use lib.Dec.{eqb}
+use Rattle.code.specs.Reach.{pick, Extra, none, extra}
+use Rattle.code.specs.Record.{track-length}
+use Rattle.code.specs.Image.{all-tracks}
+use Rattle.code.specs.Sizes.{shape}
+use Rattle.code.specs.declared.Sizes.{Sizes}
+use Rattle.repair.specs.Steps.{HasTrack, changed-at, OnlyMarked, HasExtra, named-at}
+use Rattle.repair.proofs.Stretches.{has-track}
+
+module _ (l : ℕ) (image out : List ℕ) (first : ℕ) where
+  -- The track of an extra that is not none.
+  pub extra-has : (e : ℕ) → e ≢ 0 → HasExtra l first e image out → HasTrack l (first + (e - 1)) image out
+  extra-has e d h = h .has (e - 1) (omega arith)
+
+  pub named-none : (e : ℕ) → e ≡ 0 → named-at l image out first e ≡ none
+  unfolding named-at
+  named-none e z = rw z
+
+  -- By the changed cells of its track.
+  named-by : (e : ℕ) → e ≢ 0 → (b : Bool) → eqb (changed-at l image out (first + (e - 1))) 0 ≡ b →
+      named-at l image out first e ≡ pick b none (extra (first + (e - 1)))
+  unfolding named-at
+  named-by zero d b h = absurd (d refl)
+  named-by (suc t) d b h =
+      let e : suc t - 1 ≡ t = omega arith in
+      rw e (ap (λ (c : Bool). pick c none (extra (first + t))) (rw e at h))
+
+  pub named-same : (e : ℕ) → e ≢ 0 → changed-at l image out (first + (e - 1)) ≡ 0 → named-at l image out first e ≡ none
+  named-same e d h = named-by e d _ (eq-eqb _ 0 h)
+
+  pub named-changed : (e : ℕ) → e ≢ 0 → changed-at l image out (first + (e - 1)) ≢ 0 → named-at l image out first e ≡ extra (first + (e - 1))
+  named-changed e d h = named-by e d _ (ne-eqb _ 0 h)
+
+-- An extra of either set is a track of both images.
+pub has-extra : (z : Sizes) (marks image out : List ℕ) → OnlyMarked z marks image out → (first e : ℕ) → first + e ≤ all-tracks (shape z) →
+    HasExtra (track-length (shape z)) first e image out
+has-extra z marks image out o first e h = record {
+  small = omega (arith, o .small);
+  has = λ t i. has-track z marks image out o (first + t) (omega arith);
+}

@@ -1,0 +1,94 @@
+-- `repair`: the checks come in the order of document 01, and the record is worked on in the first part of the output.
+use mathlib.Core.Path.{sym, _∙_}
+use mathlib.Core.Logic.{_≢_}
+use Prim.Native.Nat.{_≤_}
+use borrow.Author.Needs.{needs}
+use denote.Ref.{now}
+use lib.ListN.{length}
+use lib.Seq.{length-take-le}
+use Rattle.code.specs.Record.{base}
+use Rattle.code.specs.Image.{image-size}
+use Rattle.code.specs.Flags.{word-flags}
+use Rattle.code.specs.Reach.{flags-code}
+use Rattle.code.specs.Numbers.{Passed}
+use Rattle.repair.specs.Steps.{early-checks}
+use Rattle.repair.proofs.Calling.{refused, passed, room, passed-given, refused-code, repaired}
+use Rattle.repair.proofs.repair.Statement.{statement}
+use Rattle.repair.proofs.repair.Tie as tie
+use Rattle.repair.proofs.repair.Reads as reads
+use Rattle.repair.proofs.repair.Lts as lts
+use Rattle.code.proofs.plain_answer.Reads as plain-answer-reads
+use Rattle.repair.proofs.check.Reads as check-reads
+use Rattle.repair.proofs.code_of.Reads as code-of-reads
+use Rattle.repair.proofs.repair_record.Reads as repair-record-reads
+
+-- Past the checks.
+passes : (c : tie.Else1) → let a = c .before .before .before .before .before .args in Passed (early-checks (a .blocks) (a .flags) (now (a .image)) (now (a .out)))
+passes c = passed _ _ _ (now (c .before .before .before .before .before .args .out)) _ (c .before .before .check .ensures) (c .if1 .left)
+
+has-room : (c : tie.Else2) → let a = c .before .before .before .before .before .before .before .args in image-size (base (a .blocks)) ≤ length (now (a .out))
+has-room c = let a = c .before .before .before .before .before .before .before .args in room _ _ (now (a .image)) (now (a .out)) (passes (c .before .before))
+
+coded : (c : tie.Else2) → let a = c .before .before .before .before .before .before .before .args in flags-code (base (a .blocks)) (word-flags (base (a .blocks)) (a .flags)) ≢ 0
+coded c e = c .if2 .left (c .before .code-of .ensures .is _ ∙ e)
+
+check-requires : tie.Need-check-requires
+check-requires c κs = search needs
+
+returns : tie.Need-returns
+returns c = refused _ _ _ _ _ (c .before .before .check .ensures) (c .if1 .taken) _
+
+code-of-requires : tie.Need-code-of-requires
+code-of-requires c κs = search needs
+
+plain-answer-requires : tie.Need-plain-answer-requires
+plain-answer-requires c κs = search needs
+
+returns-2 : tie.Need-returns-2
+returns-2 c = refused-code _ _ _ _ (passes (c .before .before .before)) _ (c .plain-answer .ensures) (sym (c .before .before .code-of .ensures .is _) ∙ c .before .if2 .taken) _
+
+mul-repair-record : tie.Need-mul-repair-record
+mul-repair-record c = search needs
+
+mul-repair-record-2 : tie.Need-mul-repair-record-2
+mul-repair-record-2 c = search needs
+
+add-repair-record : tie.Need-add-repair-record
+add-repair-record c = search needs
+
+mul-repair-record-3 : tie.Need-mul-repair-record-3
+mul-repair-record-3 c = search needs
+
+slice-relend-prefix-repair-record : tie.Need-slice-relend-prefix-repair-record
+slice-relend-prefix-repair-record c = has-room c
+
+slice-aggregate-repair-record : tie.Need-slice-aggregate-repair-record
+slice-aggregate-repair-record c = sym (length-take-le _ _ (has-room (c .before)))
+
+repair-record-requires : tie.Need-repair-record-requires
+repair-record-requires c κs = passed-given _ _ _ _ (passes (c .before .before .before)) (coded (c .before))
+
+same-length : tie.Need-same-length
+same-length c = search needs
+
+returns-3 : tie.Need-returns-3
+returns-3 c = repaired _ _ _ _ _ _ (passes (c .before .before .before .before .before .before)) (coded (c .before .before .before .before)) (c .before .before .repair-record .kept .1 .1 .1 .0) (c .before .before .repair-record .ensures)
+
+pub repair-spec : {M : Type 1} → statement M
+repair-spec =
+    tie.close
+    (tie.spec
+    check-requires
+    returns
+    code-of-requires
+    plain-answer-requires
+    returns-2
+    mul-repair-record
+    mul-repair-record-2
+    add-repair-record
+    mul-repair-record-3
+    slice-relend-prefix-repair-record
+    slice-aggregate-repair-record
+    repair-record-requires
+    same-length
+    returns-3)

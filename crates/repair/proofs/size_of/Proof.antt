@@ -1,0 +1,16 @@
+-- `size_of`: 0 stands for none.
+use borrow.Author.Needs.{needs}
+use Rattle.repair.proofs.Choices.{size-some}
+use Rattle.repair.proofs.size_of.Statement.{statement}
+use Rattle.repair.proofs.size_of.Tie as tie
+use Rattle.repair.proofs.size_of.Reads as reads
+use Rattle.repair.proofs.size_of.Lts as lts
+
+returns : tie.Need-returns
+returns c = search needs
+
+returns-2 : tie.Need-returns-2
+returns-2 c = size-some _ (c .if1 .left)
+
+pub size-of-spec : {M : Type 1} → statement M
+size-of-spec = tie.close (tie.spec returns returns-2)

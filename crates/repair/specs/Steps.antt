@@ -1,0 +1,194 @@
+-- What the steps of repair and tracing give.
+use mathlib.Core.Path.{_≡_}
+use mathlib.Core.Logic.{_≢_}
+use mathlib.Core.Bool.{Bool, true, false}
+use mathlib.Core.List.{List, [], _∷_}
+use Prim.Native.Nat.{ℕ, zero, suc, _+_, _*_, _/_, _%_, _^_, _<_, _≤_}
+use lib.Dec.{eqb}
+use lib.ListN.{length, getD}
+use Rattle.code.specs.Record.{TrackSet, A, B, Shape, base, tracks, track-length, Cells, sum, Good}
+use Rattle.code.specs.Image.{all-tracks, image-size, cells}
+use Rattle.code.specs.Flags.{TrackFlags, whole, bit, word-flags, AgreeOff, Within}
+use Rattle.code.specs.Reach.{pick, flags-code, Extra, none, extra, Choice, Allowed, with-extras, InReach}
+use Rattle.code.specs.Numbers.{Check, count-check, length-check, room-check, cell-check, flag-check, First}
+use Rattle.code.specs.Calls.{Result, plain, Refused, differ, changed-cells, changed-mask, mended}
+use Rattle.code.specs.Sizes.{shape, Small}
+use Rattle.code.specs.declared.Sizes.{Sizes}
+use Rattle.syndrome.specs.Syndrome.{Image, Kept}
+use Rattle.solver.specs.Solver.{marked}
+use Rattle.repair.specs.declared.Changes.{Changes}
+use Rattle.repair.specs.declared.Hit.{Hit}
+
+-- ## Flags
+
+-- The marks of a flag word: one a track number.
+pub record Marks (flags : ℕ) (marks : List ℕ) : Type 0 where
+  pub size : length marks ≡ 18
+  pub marks-at : (g : ℕ) → g < 18 → getD marks g 0 ≡ flags / 2 ^ g % 2
+
+-- The flags among the lowest n bits of a word.
+abbrev pub flags-in : ℕ → ℕ → ℕ
+flags-in word n = sum n (λ t. bit (eqb (word / 2 ^ t % 2) 1))
+
+-- r is the code of a flag word.
+pub record Coded (flags r : ℕ) : Type 0 where
+  pub is : (n : ℕ) → r ≡ flags-code (base n) (word-flags (base n) flags)
+
+-- ## Checks
+
+-- The checks of both calls but for the last, that of the code.
+abbrev pub early-checks : ℕ → ℕ → List ℕ → List ℕ → List {1} Check
+early-checks n flags image before =
+    count-check n
+    ∷ length-check (image-size (base n)) image
+    ∷ room-check (image-size (base n)) before
+    ∷ cell-check image
+    ∷ flag-check (base n) flags
+    ∷ []
+
+-- The first of them that applies says what is right; 0 where none does. `room` is the output's length.
+pub record Checked (n flags : ℕ) (image : List ℕ) (room : ℕ) (r : Result) : Type 0 where
+  pub first : (before : List ℕ) → length before ≡ room → First (early-checks n flags image before) (Refused r before before) (r ≡ plain 0 0)
+
+-- ## Changed cells
+
+-- Two images have track number g, of l cells.
+pub record HasTrack (l g : ℕ) (image out : List ℕ) : Type 0 where
+  pub room : g * l + l ≤ length image
+  pub sizes : length out ≡ length image
+
+-- The cells of track number g that differ.
+unfoldable pub changed-at : ℕ → List ℕ → List ℕ → ℕ → ℕ
+changed-at l image out g = sum l (λ m. differ (getD image (g * l + m) 0) (getD out (g * l + m) 0))
+
+-- An image and an output that differ in marked tracks at the most.
+pub record OnlyMarked (z : Sizes) (marks image out : List ℕ) : Type 0 where
+  pub small : Small z
+  pub marks-size : all-tracks (shape z) ≤ length marks
+  pub image-has : length image ≡ image-size (shape z)
+  pub out-has : length out ≡ image-size (shape z)
+  pub agree : AgreeOff (shape z) (whole (marked (shape z) marks)) (cells (shape z) image) (cells (shape z) out)
+
+-- The changed mask and cells.
+pub record Counted (sh : Shape) (image out : List ℕ) (r : Changes) : Type 0 where
+  pub mask-is : r .mask ≡ changed-mask sh (cells sh image) (cells sh out)
+  pub cells-are : r .cells ≡ changed-cells sh (cells sh image) (cells sh out)
+
+-- Track number g is the image's again, and no other is changed.
+pub record TrackBack (l g : ℕ) (image out after : List ℕ) : Type 0 where
+  pub size : length after ≡ length out
+  pub here : (m : ℕ) → m < l → getD after (g * l + m) 0 ≡ getD image (g * l + m) 0
+  pub there : (k m : ℕ) → k ≢ g → m < l → getD after (k * l + m) 0 ≡ getD out (k * l + m) 0
+
+-- An extra of a set whose first track has number `first`, 0 for none and t + 1 for track t, is a track of two images.
+pub record HasExtra (l first e : ℕ) (image out : List ℕ) : Type 0 where
+  pub small : first + e ≤ 18
+  pub has : (t : ℕ) → e ≡ suc t → HasTrack l (first + t) image out
+
+-- It is named if it is changed.
+unfoldable pub named-at : ℕ → List ℕ → List ℕ → ℕ → ℕ → Extra
+named-at l image out first zero = none
+named-at l image out first (suc t) = pick (eqb (changed-at l image out (first + t)) 0) none (extra (first + t))
+
+-- ## One set of flags
+
+-- A copy of the image, the image's syndromes, and marks that the code can repair.
+pub record Workable (z : Sizes) (marks image out syn : List ℕ) : Type 0 where
+  pub kept : Kept z image syn
+  pub copy : out ≡ image
+  pub marks-size : all-tracks (shape z) ≤ length marks
+  pub within : Within (shape z) (marked (shape z) marks)
+
+-- What comes of them: true with a good record, or false, and there is none, and the output is the image again.
+pub record Worked (sh : Shape) (f : TrackFlags) (image after : List ℕ) (r : Bool) : Type 0 where
+  pub size : length after ≡ image-size sh
+  pub good : r ≡ true → Good sh (cells sh after)
+  pub agree : r ≡ true → AgreeOff sh (whole f) (cells sh image) (cells sh after)
+  pub no-record : r ≡ false → (y : Cells) → Good sh y → AgreeOff sh (whole f) (cells sh image) y → ⊥
+  pub back : r ≡ false → after ≡ image
+
+-- ## Choices of extras
+
+-- An extra by its number: 0 for none, t + 1 for track t.
+abbrev pub extra-at : ℕ → Extra
+extra-at zero = none
+extra-at (suc t) = extra t
+
+-- A choice of extras, one a set.
+abbrev pub choice-at : ℕ → ℕ → Choice
+choice-at a b A = extra-at a
+choice-at a b B = extra-at b
+
+pub record IsChoice (z : Sizes) (a b : ℕ) : Type 0 where
+  pub small : Small z
+  pub in-a : a ≤ tracks (shape z) A
+  pub in-b : b ≤ tracks (shape z) B
+
+-- One mark more: that of an extra of the set whose first track has number `first`.
+pub record OneMore (first e : ℕ) (marks r : List ℕ) : Type 0 where
+  pub size : length r ≡ length marks
+  pub here : (t : ℕ) → e ≡ suc t → getD r (first + t) 0 ≡ 1
+  pub there : (g : ℕ) → ((t : ℕ) → e ≡ suc t → g ≢ first + t) → getD r g 0 ≡ getD marks g 0
+
+-- The marks with the extras of a choice.
+pub record Widened (sh : Shape) (marks : List ℕ) (e : Choice) (r : List ℕ) : Type 0 where
+  pub size : length r ≡ length marks
+  pub flags : (s : TrackSet) (t : ℕ) → t < tracks sh s → marked sh r s t ≡ with-extras (marked sh marks) e s t
+
+-- r says whether an extra is none or has no mark.
+pub record Free (first e : ℕ) (marks : List ℕ) (r : Bool) : Type 0 where
+  pub yes-free : r ≡ true → (t : ℕ) → e ≡ suc t → getD marks (first + t) 0 ≢ 1
+  pub not-free : r ≡ false → ((t : ℕ) → e ≡ suc t → getD marks (first + t) 0 ≢ 1) → ⊥
+
+-- r says whether the code allows a choice.
+pub record Allows (sh : Shape) (code : ℕ) (f : TrackFlags) (e : Choice) (r : Bool) : Type 0 where
+  pub yes-allowed : r ≡ true → Allowed sh code f e
+  pub not-allowed : r ≡ false → Allowed sh code f e → ⊥
+
+-- ## Tracing
+
+-- A good record that is in reach by a choice.
+pub record Fits (sh : Shape) (code : ℕ) (f : TrackFlags) (image : List ℕ) (e : Choice) (y : Cells) : Type 0 where
+  pub good : Good sh y
+  pub allowed : Allowed sh code f e
+  pub agree : AgreeOff sh (whole (with-extras f e)) (cells sh image) y
+
+-- What the tracer works with: an image with its syndromes, marks and their code.
+pub record Traceable (z : Sizes) (code : ℕ) (marks image first : List ℕ) : Type 0 where
+  pub kept : Kept z image first
+  pub marks-size : length marks ≡ 18
+  pub code-is : code ≡ flags-code (shape z) (marked (shape z) marks)
+  pub coded : code ≢ 0
+
+-- One choice is tried. Where it fails the output is the image again.
+pub record Tried (sh : Shape) (code : ℕ) (f : TrackFlags) (image : List ℕ) (e : Choice) (after : List ℕ) (r : Bool) : Type 0 where
+  pub size : length after ≡ image-size sh
+  pub fits : r ≡ true → Fits sh code f image e (cells sh after)
+  pub no-fit : r ≡ false → (y : Cells) → Fits sh code f image e y → ⊥
+  pub back : r ≡ false → after ≡ image
+
+-- All choices are tried, up to one that fits.
+pub record Searched (z : Sizes) (code : ℕ) (f : TrackFlags) (image after : List ℕ) (r : Hit) : Type 0 where
+  pub size : length after ≡ image-size (shape z)
+  pub is-choice : r .found ≡ true → IsChoice z (r .a) (r .b)
+  pub fits : r .found ≡ true → Fits (shape z) code f image (choice-at (r .a) (r .b)) (cells (shape z) after)
+  pub no-record : r .found ≡ false → (y : Cells) → Good (shape z) y → InReach (shape z) code f (cells (shape z) image) y → ⊥
+  pub back : r .found ≡ false → after ≡ image
+
+-- The extras that are named, by the numbers of a choice.
+abbrev pub names-at : Shape → List ℕ → List ℕ → ℕ → ℕ → TrackSet → Extra
+names-at sh image out a b A = named-at (track-length sh) image out 0 a
+names-at sh image out a b B = named-at (track-length sh) image out (tracks sh A) b
+
+-- Answer 0 with what was changed.
+abbrev pub mended-at : Shape → List ℕ → List ℕ → ℕ → ℕ → Result
+mended-at sh image out a b = mended sh (cells sh image) (cells sh out) (names-at sh image out a b)
+
+-- ## Whole records
+
+-- An image of bits, an output of its size, and flags that have a code.
+pub record Given (z : Sizes) (flags : ℕ) (image out : List ℕ) : Type 0 where
+  pub small : Small z
+  pub image-is : Image (shape z) image
+  pub out-has : length out ≡ image-size (shape z)
+  pub coded : flags-code (shape z) (word-flags (shape z) flags) ≢ 0
