@@ -19,7 +19,7 @@
 #include <isa-l/erasure_code.h>
 #endif
 
-enum { LARGEST = AXP_MAX_IMAGE_SIZE, RUNS = 15, BARS = 64 };
+enum { LARGEST = AXP_MAX_IMAGE_SIZE, RUNS = 40, BARS = 64 };
 
 static uint8_t payload[AXP_MAX_PAYLOAD_SIZE], good[LARGEST], image[LARGEST], out[LARGEST];
 
@@ -58,22 +58,16 @@ static void run_decode(void) { sink += the_decode(blocks, flags, input, input_le
 
 static void run_convert(void) { sink += the_convert(blocks, input, input_len, out, sizeof out).answer; }
 
-static int by_value(const void *x, const void *y)
-{
-    double a = *(const double *)x, b = *(const double *)y;
-    return (a > b) - (a < b);
-}
-
-/* Nanoseconds a call: the median of RUNS runs, each long enough to be timed. */
+/* Nanoseconds a call: the best of RUNS runs, each long enough to be timed, so that other work on the machine counts least. */
 static double measure(void (*call)(void))
 {
-    double times[RUNS];
+    double best = 1e18;
     size_t count = 1;
     for (;;) {
         double from = now();
         for (size_t i = 0; i < count; i++)
             call();
-        if (now() - from > 2e6)
+        if (now() - from > 1e6)
             break;
         count *= 2;
     }
@@ -81,10 +75,11 @@ static double measure(void (*call)(void))
         double from = now();
         for (size_t i = 0; i < count; i++)
             call();
-        times[r] = (now() - from) / (double)count;
+        double time = (now() - from) / (double)count;
+        if (time < best)
+            best = time;
     }
-    qsort(times, RUNS, sizeof *times, by_value);
-    return times[RUNS / 2];
+    return best;
 }
 
 #ifdef WITH_ISAL

@@ -69,13 +69,13 @@ static int is_good(const uint8_t *image, const uint8_t *syn, size_t l)
     return 1;
 }
 
-static void turn(uint8_t *syn, size_t l, size_t row, size_t m)
+static inline void turn(uint8_t *syn, size_t l, size_t row, size_t m)
 {
     if (m < l)
         syn[row * l + m] ^= 1;
 }
 
-static void flip(uint8_t *out, uint8_t *syn, size_t l, size_t s, size_t t, size_t p)
+static inline __attribute__((always_inline)) void flip(uint8_t *out, uint8_t *syn, size_t l, size_t s, size_t t, size_t p)
 {
     out[(9 * s + t) * l + p] ^= 1;
     if (t < 8) {
@@ -112,7 +112,7 @@ static plan make_plan(uint32_t marks)
     return p;
 }
 
-static void step(uint8_t *out, uint8_t *syn, size_t l, size_t s, plan p, size_t m)
+static inline __attribute__((always_inline)) void step(uint8_t *out, uint8_t *syn, size_t l, size_t s, plan p, size_t m)
 {
     if (p.low < 8 && syn[s * l + m + p.low])
         flip(out, syn, l, s, p.low, m);
@@ -122,7 +122,7 @@ static void step(uint8_t *out, uint8_t *syn, size_t l, size_t s, plan p, size_t 
         flip(out, syn, l, s, p.last, m);
 }
 
-static void clear_cell(uint8_t *out, uint8_t *syn, size_t l, size_t s, size_t t, size_t m)
+static inline void clear_cell(uint8_t *out, uint8_t *syn, size_t l, size_t s, size_t t, size_t m)
 {
     if (t >= 1 && t < 8 && out[(9 * s + t) * l + m])
         flip(out, syn, l, s, t, m);

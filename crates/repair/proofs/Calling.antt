@@ -1,7 +1,6 @@
 -- The calls: their checks, and the part of the output that is worked on.
 use mathlib.Core.Path.{_≡_, refl, sym, ap, _∙_}
 use mathlib.Core.Logic.{_≢_, inl, inr, by-cases}
-use mathlib.Core.Bool.{Bool}
 use mathlib.Core.List.{List, [], _∷_, _++_}
 use Prim.Native.Nat.{ℕ, _+_, _*_, _-_, _<_, _≤_}
 use native.Mathlib.Decide.{decLe, decLt, ℕ-discrete}
@@ -11,7 +10,7 @@ use lib.Seq.{getD-drop, getD-append-add, length-take-le}
 use Rattle.code.specs.Record.{TrackSet, base, Shape, tracks, Cells, Same}
 use Rattle.code.specs.Image.{image-size, cells}
 use Rattle.code.specs.Flags.{CellFlags, word-flags, AgreeOff}
-use Rattle.code.specs.Reach.{flags-code, Extra, none, InReach}
+use Rattle.code.specs.Reach.{flags-code, Extra, none}
 use Rattle.code.specs.Numbers.{Check, reach-check, First, Passed, first-bad}
 use Rattle.code.specs.Calls.{Result, plain, Refused, Stays, Mended, RepairNear, Repaired, TraceNear, trace-named, Traced}
 use Rattle.code.specs.declared.Sizes.{Sizes}

@@ -1,13 +1,13 @@
 -- The extras that are named.
-use mathlib.Core.Path.{_≡_, refl, sym, ap, ap₂, _∙_}
+use mathlib.Core.Path.{_≡_, refl, ap}
 use mathlib.Core.Logic.{_≢_}
 use mathlib.Core.Bool.{Bool}
 use mathlib.Core.List.{List}
-use Prim.Native.Nat.{ℕ, zero, suc, _+_, _-_, _<_, _≤_}
+use Prim.Native.Nat.{ℕ, zero, suc, _+_, _-_, _≤_}
 use native.Mathlib.Omega.{arith}
 use borrow.Author.Tests.{eq-eqb, ne-eqb}
 use lib.Dec.{eqb}
-use Rattle.code.specs.Reach.{pick, Extra, none, extra}
+use Rattle.code.specs.Reach.{pick, none, extra}
 use Rattle.code.specs.Record.{track-length}
 use Rattle.code.specs.Image.{all-tracks}
 use Rattle.code.specs.Sizes.{shape}

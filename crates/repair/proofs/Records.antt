@@ -1,20 +1,18 @@
 -- Whole records: what repair and tracing come to.
 use mathlib.Core.Path.{_≡_, refl, sym, ap, ap₂, subst, _∙_}
-use mathlib.Core.Logic.{_≢_, inl, inr, by-cases}
+use mathlib.Core.Logic.{inl, inr}
 use mathlib.Core.Bool.{Bool, true, false, _||_}
-use mathlib.Core.List.{List, _++_}
+use mathlib.Core.List.{List}
 use Prim.Native.Nat.{ℕ, zero, suc, _+_, _<_, _≤_}
 use native.Mathlib.Nat.{zero-add}
 use native.Mathlib.Omega.{arith}
-use borrow.Author.Tests.{ne-eqb}
 use lib.Dec.{eqb}
-use lib.ListN.{length, getD, take, drop, length-take, length-append, List·getD-eq-default, List·getD-append}
-use lib.Seq.{getD-take, getD-drop, getD-append-add}
-use Rattle.code.specs.Record.{TrackSet, A, B, Shape, tracks, track-length, Cells, Good, Same}
+use lib.ListN.{length, getD, List·getD-eq-default}
+use Rattle.code.specs.Record.{TrackSet, A, B, Shape, tracks, track-length}
 use Rattle.code.specs.Image.{track-number, image-size, cells}
-use Rattle.code.specs.Flags.{TrackFlags, whole, word-flags, AgreeOff}
-use Rattle.code.specs.Reach.{pick, flags-code, Extra, none, extra, is, Choice, Allowed, with-extras, InReach}
-use Rattle.code.specs.Calls.{Result, plain, Stays, changed-in, changed-extra, mended, Found, NotFound, Mended, RepairNear, TraceNear, trace-named}
+use Rattle.code.specs.Flags.{TrackFlags, word-flags}
+use Rattle.code.specs.Reach.{pick, flags-code, none, extra, is, Allowed, InReach}
+use Rattle.code.specs.Calls.{Result, plain, Stays, changed-in, changed-extra, mended, Mended, RepairNear, TraceNear, trace-named}
 use Rattle.code.specs.Sizes.{shape}
 use Rattle.code.specs.declared.Sizes.{Sizes}
 use Rattle.code.proofs.Codes.{code-within}

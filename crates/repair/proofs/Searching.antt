@@ -7,7 +7,6 @@ use native.Mathlib.Omega.{arith}
 use borrow.Author.Count.{below-more}
 use lib.ListN.{length}
 use Rattle.code.specs.Record.{A, B, tracks, Cells}
-use Rattle.code.specs.Image.{cells}
 use Rattle.code.specs.Flags.{TrackFlags}
 use Rattle.code.specs.Sizes.{shape}
 use Rattle.code.specs.declared.Sizes.{Sizes}

@@ -1,14 +1,13 @@
 -- The bits of a flag word.
-use mathlib.Core.Path.{_≡_, refl, ap, _∙_}
+use mathlib.Core.Path.{_≡_, ap, _∙_}
 use mathlib.Core.Logic.{by-cases}
-use mathlib.Core.Bool.{Bool}
-use Prim.Native.Nat.{ℕ, _+_, _/_, _%_, _^_, _<_}
+use Prim.Native.Nat.{ℕ, _+_, _/_, _%_, _^_}
 use native.Mathlib.Decide.{ℕ-discrete}
 use native.Mathlib.Omega.{arith}
 use borrow.Author.Tests.{eq-eqb, ne-eqb}
 use lib.Dec.{eqb}
 use lib.Pow.{shr-shr}
-use Rattle.code.specs.Record.{A, B, base, sum}
+use Rattle.code.specs.Record.{base}
 use Rattle.code.specs.Flags.{bit, word-flags, flag-count}
 use Rattle.code.specs.Reach.{reach-code, flags-code}
 use Rattle.code.proofs.Sums.{sum-same}

@@ -2,13 +2,13 @@
 use mathlib.Core.Path.{_≡_, refl, sym, ap, subst, _∙_}
 use mathlib.Core.Bool.{Bool, true, false, true≢false}
 use mathlib.Core.List.{List}
-use Prim.Native.Nat.{ℕ, _<_, _≤_}
+use Prim.Native.Nat.{ℕ, _≤_}
 use native.Mathlib.Omega.{arith}
-use lib.ListN.{length, getD}
+use lib.ListN.{length}
 use lib.Seq.{ext-getD}
-use Rattle.code.specs.Record.{TrackSet, A, B, Shape, Good}
-use Rattle.code.specs.Image.{all-tracks, image-size, cells}
-use Rattle.code.specs.Flags.{TrackFlags, whole, AgreeOff, Within}
+use Rattle.code.specs.Record.{A, B, Shape}
+use Rattle.code.specs.Image.{cells}
+use Rattle.code.specs.Flags.{TrackFlags, whole, AgreeOff}
 use Rattle.code.specs.Reach.{flags-code, Choice, Allowed, with-extras}
 use Rattle.code.specs.Sizes.{shape}
 use Rattle.code.specs.declared.Sizes.{Sizes}
@@ -18,7 +18,7 @@ use Rattle.track.specs.Track.{Copied}
 use Rattle.syndrome.specs.Syndrome.{Kept}
 use Rattle.solver.specs.declared.Plan.{Plan}
 use Rattle.solver.specs.Solver.{marked, Planned, Fills, plan-of, Solved}
-use Rattle.repair.specs.Steps.{OnlyMarked, Workable, Worked, Widened, Fits, Traceable, Tried}
+use Rattle.repair.specs.Steps.{OnlyMarked, Workable, Worked, Widened, Traceable, Tried}
 use Rattle.repair.proofs.Flagging.{SameFlags, within-same, agree-same, allowed-within, beside, frame-agree}
 
 -- A list that is copied over one of its length.

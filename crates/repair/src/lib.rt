@@ -10,7 +10,7 @@ ghost use Rattle.code.specs.Reach.{none, size, flags-code};
 ghost use Rattle.code.specs.Flags.{word-flags};
 ghost use Rattle.code.specs.Calls.{Mended, RepairNear, Repaired, TraceNear, trace-named, Traced};
 ghost use Rattle.code.specs.Answers.{extra-of, result-of};
-ghost use Rattle.code.specs.Sizes.{shape, Small};
+ghost use Rattle.code.specs.Sizes.{shape};
 ghost use Rattle.solver.specs.Solver.{marked};
 ghost use Rattle.repair.specs.Steps.{
   Marks,
@@ -110,6 +110,7 @@ fn check(blocks: u32, flags: u32, image: &[u8], room: usize) -> Answer
 
 // ---- Changed cells
 
+// The changed mask and the number of changed cells.
 pub struct Changes {
     pub mask: u32,
     pub cells: u32,
@@ -246,6 +247,7 @@ fn repair_record(z: Sizes, flags: u32, image: &[u8], out: &mut [u8]) -> Answer
     plain_answer(7, 0)
 }
 
+// Repairer: the flagged tracks are made right, or there is no good record that equals the image on the others.
 pub fn repair(blocks: u32, flags: u32, image: &[u8], out: &mut [u8]) -> Answer
     ensures { λ r. ⌜ Repaired blocks flags (now (image .entry)) (now (out .entry)) (result-of r) (now (out .exit)) ⌝ }
 {
@@ -267,6 +269,7 @@ pub fn repair(blocks: u32, flags: u32, image: &[u8], out: &mut [u8]) -> Answer
 
 // ---- Choices of extras
 
+// A choice that fits, where one was found: 0 for no extra, t + 1 for track t.
 pub struct Hit {
     pub found: bool,
     pub a: usize,
@@ -428,6 +431,7 @@ fn trace_record(z: Sizes, code: u8, flags: u32, image: &[u8], out: &mut [u8]) ->
     answer_of(z, &wide, image, out, hit.a, hit.b)
 }
 
+// Tracer: the same with extra tracks that are not flagged, as many as the code of the flags allows.
 pub fn trace(blocks: u32, flags: u32, image: &[u8], out: &mut [u8]) -> Answer
     ensures { λ r. ⌜ Traced blocks flags (now (image .entry)) (now (out .entry)) (result-of r) (now (out .exit)) ⌝ }
 {

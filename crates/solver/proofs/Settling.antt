@@ -14,7 +14,7 @@ use Rattle.code.specs.Image.{track-number, cells}
 use Rattle.code.specs.Sizes.{shape}
 use Rattle.code.specs.declared.Sizes.{Sizes}
 use Rattle.code.proofs.Places.{cell-lt}
-use Rattle.syndrome.specs.Syndrome.{set-of, Kept, IsCell, Flipped, index}
+use Rattle.syndrome.specs.Syndrome.{set-of, Kept, IsCell, Flipped, CellAdded, index}
 use Rattle.solver.specs.Steps.{Settled, tail-sum, ByOwn, ByOther, ByVertical, ByTail, Still}
 use Rattle.solver.proofs.Sets.{own-row, other-row}
 
@@ -76,6 +76,18 @@ settled-same {z} {s} {t} {p} bound d k e = record {
 -- A track past the bound, where nothing was done.
 pub settled-none : {z : Sizes} {s t p : ℕ} {out syn : List ℕ} (bound d : ℕ) → Kept z out syn → bound ≤ t → Settled z bound s t p d out out syn
 settled-none bound d k e = record { kept = k; here = λ h. absurd (omega arith); there = λ r u q h b n. refl }
+
+-- A cell to which a bit is added.
+pub settled-added : {z : Sizes} {s t p : ℕ} {out after syn syn′ : List ℕ} (bound w : ℕ) → w < 2 → Kept z out syn → IsCell z s t p →
+    CellAdded z s t p w out after syn′ → Settled z bound s t p w out after syn′
+settled-added bound zero h k i c = rw (c .zero refl) (settled-same bound 0 (rw (c .zero refl) at (c .kept)) refl)
+settled-added bound (suc zero) h k i c = settled-turned bound 1 k i (omega arith) (record { cell = c .one refl; kept = c .kept })
+settled-added bound (suc (suc w)) h k i c = absurd (omega arith)
+
+-- By a syndrome, whatever its index is called.
+pub settled-at : {z : Sizes} {bound s t p : ℕ} {out after syn : List ℕ} (sums : List ℕ) (i j : ℕ) → i ≡ j →
+    Settled z bound s t p (getD sums i 0) out after syn → Settled z bound s t p (getD sums j 0) out after syn
+settled-at sums i j e w = rw e at w
 
 -- By another bound and another sum of the same parity.
 pub settled-by : {z : Sizes} {bound s t p d : ℕ} {out after syn : List ℕ} (bound′ d′ : ℕ) → Settled z bound s t p d out after syn →

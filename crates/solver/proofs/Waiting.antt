@@ -7,9 +7,10 @@ use Prim.Native.Nat.{ℕ, zero, suc, _+_, _*_, _-_, _<_, _≤_, _%_}
 use native.Mathlib.Decide.{decLt}
 use native.Mathlib.Numerals.{add-one}
 use native.Mathlib.Omega.{arith}
-use lib.ListN.{getD, take, drop}
+use borrow.Rule.Slice.PartMut.{mid-len}
+use lib.ListN.{length, getD, take, drop}
 use lib.Seq.{getD-take, getD-drop}
-use Rattle.code.specs.Record.{TrackSet, A, B, other, Shape, data-tracks, tracks, lag, track-length, diagonal, vertical}
+use Rattle.code.specs.Record.{TrackSet, A, B, other, data-tracks, lag, track-length, diagonal, vertical}
 use Rattle.code.specs.Image.{cells}
 use Rattle.code.specs.Sizes.{shape}
 use Rattle.code.specs.declared.Sizes.{Sizes}
@@ -29,24 +30,31 @@ part-zero : (xs : List ℕ) (a e : ℕ) (r : Bool) → Zeros (take (e - a) (drop
 part-zero xs a e r h t q l b =
     ap (λ (i : ℕ). getD xs i 0) (omega arith) ∙ sym (getD-drop a xs (q - a) 0) ∙ sym (getD-take (e - a) (drop a xs) (q - a) 0 (omega arith)) ∙ h .all t (q - a)
 
--- A test that failed says nothing.
-pub columns-unknown : {syn : List ℕ} {l from to : ℕ} → ColumnsZero syn l from to false
-columns-unknown = record { zero-at = λ e. absurd (true≢false (sym e)) }
+-- A part of a row that is not all 0.
+pub columns-some : {syn : List ℕ} {l from to : ℕ} {r : Bool} (row a e : ℕ) → row < 4 → a ≡ row * l + from → e ≡ row * l + to → e ≤ length syn →
+    Zeros (take (e - a) (drop a syn)) r → r ≡ false → ColumnsZero syn l from to false
+columns-some {syn} {l} {from} {to} row a e h i j k z n = record {
+  zero-at = λ t. absurd (true≢false (sym t));
+  not-zero = λ _ all. z .not-all n (λ q b.
+      let c : q < e - a = omega (arith, mid-len a e syn k) in
+      getD-take (e - a) (drop a syn) q 0 c ∙ getD-drop a syn q 0 ∙ ap (λ (v : ℕ). getD syn v 0) (omega arith) ∙ all row (from + q) h (omega arith) (omega arith));
+}
 
--- Four parts that are all 0.
-pub columns-known : (syn : List ℕ) (l from to : ℕ) {r₀ r₁ r₂ r₃ : Bool} →
+-- Four parts that are all 0, if the last one is.
+pub columns-known : (syn : List ℕ) (l from to : ℕ) {r₀ r₁ r₂ : Bool} (r₃ : Bool) → 3 * l + to ≤ length syn →
     Zeros (take (to - from) (drop from syn)) r₀ → r₀ ≡ true →
     Zeros (take (l + to - (l + from)) (drop (l + from) syn)) r₁ → r₁ ≡ true →
     Zeros (take (2 * l + to - (2 * l + from)) (drop (2 * l + from) syn)) r₂ → r₂ ≡ true →
     Zeros (take (3 * l + to - (3 * l + from)) (drop (3 * l + from) syn)) r₃ → ColumnsZero syn l from to r₃
-columns-known syn l from to {r₀} {r₁} {r₂} {r₃} z₀ e₀ z₁ e₁ z₂ e₂ z₃ = record { zero-at = λ e. go e }
+columns-known syn l from to {r₀} {r₁} {r₂} false h z₀ e₀ z₁ e₁ z₂ e₂ z₃ = columns-some 3 _ _ (omega arith) refl refl h z₃ refl
+columns-known syn l from to {r₀} {r₁} {r₂} true h z₀ e₀ z₁ e₁ z₂ e₂ z₃ = record { zero-at = λ e. go; not-zero = λ e. absurd (true≢false e) }
   where
-    go : r₃ ≡ true → (row q : ℕ) → row < 4 → from ≤ q → q < to → getD syn (row * l + q) 0 ≡ 0
-    go e zero q h a b = part-zero syn from to r₀ z₀ e₀ (0 * l + q) (omega arith) (omega arith)
-    go e (suc zero) q h a b = part-zero syn (l + from) (l + to) r₁ z₁ e₁ (1 * l + q) (omega arith) (omega arith)
-    go e (suc (suc zero)) q h a b = part-zero syn (2 * l + from) (2 * l + to) r₂ z₂ e₂ (2 * l + q) (omega arith) (omega arith)
-    go e (suc (suc (suc zero))) q h a b = part-zero syn (3 * l + from) (3 * l + to) r₃ z₃ e (3 * l + q) (omega arith) (omega arith)
-    go e (suc (suc (suc (suc n)))) q h a b = absurd (omega arith)
+    go : (row q : ℕ) → row < 4 → from ≤ q → q < to → getD syn (row * l + q) 0 ≡ 0
+    go zero q h a b = part-zero syn from to r₀ z₀ e₀ (0 * l + q) (omega arith) (omega arith)
+    go (suc zero) q h a b = part-zero syn (l + from) (l + to) r₁ z₁ e₁ (1 * l + q) (omega arith) (omega arith)
+    go (suc (suc zero)) q h a b = part-zero syn (2 * l + from) (2 * l + to) r₂ z₂ e₂ (2 * l + q) (omega arith) (omega arith)
+    go (suc (suc (suc zero))) q h a b = part-zero syn (3 * l + from) (3 * l + to) true z₃ refl (3 * l + q) (omega arith) (omega arith)
+    go (suc (suc (suc (suc n)))) q h a b = absurd (omega arith)
 
 -- A quiet start, and 64 columns more.
 pub quiet-none : (z : Sizes) (syn : List ℕ) → Quiet z syn 0

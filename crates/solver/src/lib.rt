@@ -1,5 +1,6 @@
 // The solver: flagged tracks are made good, position by position, by turning cells over where a syndrome is not 0.
 use code::Sizes;
+use syndrome::Line;
 ghost use mathlib.Core.Path.{_≡_};
 ghost use Prim.Native.Nat.{_+_, _*_, _<_, _≤_};
 ghost use lib.ListN.{length, getD};
@@ -7,9 +8,10 @@ ghost use Rattle.code.specs.Record.{data-tracks, tracks, track-length};
 ghost use Rattle.code.specs.Image.{all-tracks, cells};
 ghost use Rattle.code.specs.Flags.{flag-count};
 ghost use Rattle.code.specs.Sizes.{shape, Small};
-ghost use Rattle.syndrome.specs.Syndrome.{set-of, Kept, IsCell};
-ghost use Rattle.solver.specs.Solver.{marked, Planned, Fills, Solved};
-ghost use Rattle.solver.specs.Steps.{DataTracks, Number, Settled, ByOwn, ByOther, ByVertical, ByTail, Stepped, Ahead, Advanced, DataSolved, SumsZero, Columns, ColumnsZero, Quiet};
+ghost use Rattle.syndrome.specs.Syndrome.{set-of, Kept, IsCell, LineOf};
+ghost use Rattle.syndrome.specs.Steps.{IsTrack};
+ghost use Rattle.solver.specs.Solver.{marked, Planned, Fills, Single, Solved};
+ghost use Rattle.solver.specs.Steps.{Settled, ByOwn, ByOther, ByVertical, ByTail, Stepped, Ahead, Advanced, AllSolved, SetSolved, DataSolved, SingleTested, BlockEnd, SumsZero, Columns, ColumnsZero, Quiet};
 
 // Past every track.
 pub const NONE: usize = 16;
@@ -21,29 +23,6 @@ pub struct Plan {
     pub last: usize,
 }
 
-// The data tracks of a set.
-fn data_of(z: Sizes, s: usize) -> usize
-    requires { ⌜ Small z ⌝ }
-    ensures { λ r. ⌜ DataTracks z s r ⌝ }
-{
-    if s == 0 {
-        return z.t1;
-    }
-    z.t2
-}
-
-// The track number of track t of a set.
-fn number_of(z: Sizes, s: usize, t: usize) -> usize
-    requires { ⌜ Small z ⌝ }
-    requires { ⌜ t < 16 ⌝ }
-    ensures { λ r. ⌜ Number z s t r ⌝ }
-{
-    if s == 0 {
-        return t;
-    }
-    z.t1 + 2 + t
-}
-
 // The plan for the marked tracks of a set, three at the most.
 pub fn make_plan(marks: &[u8], z: Sizes, s: usize) -> Plan
     requires { ⌜ Small z ⌝ }
@@ -53,8 +32,8 @@ pub fn make_plan(marks: &[u8], z: Sizes, s: usize) -> Plan
     ensures { λ r. ⌜ Planned (shape z) (marked (shape z) (now (marks .entry))) (set-of s) r ⌝ }
     ensures { λ r. ⌜ Fills (shape z) (marked (shape z) (now (marks .entry))) (set-of s) r ⌝ }
 {
-    let data = data_of(z, s);
-    let first = number_of(z, s, 0);
+    let data = syndrome::data_tracks(z, s);
+    let first = syndrome::track_number(z, s, 0);
     let mut i = NONE;
     let mut j = NONE;
     let mut k = NONE;
@@ -120,21 +99,8 @@ fn by_own(out: &mut [u8], syn: &mut [u8], z: Sizes, s: usize, t: usize, p: usize
     requires { ⌜ (t ≤ data-tracks (shape z) (set-of s) → p + t < track-length (shape z)) ⌝ }
     ensures { λ _. ⌜ ByOwn z s t p (now (out .entry)) (now (out .exit)) (now (syn .exit)) ⌝ }
 {
-    if t <= data_of(z, s) {
+    if t <= syndrome::data_tracks(z, s) {
         mend(out, syn, z, s, t, p, s, p + t);
-    }
-}
-
-// The same by the diagonal of the other set, at a position of the data.
-fn by_other(out: &mut [u8], syn: &mut [u8], z: Sizes, s: usize, t: usize, p: usize)
-    requires { ⌜ Kept z (now out) (now syn) ⌝ }
-    requires { ⌜ s < 2 ⌝ }
-    requires { ⌜ p < z .positions ⌝ }
-    ensures { λ _. ⌜ ByOther z s t p (now (out .entry)) (now (out .exit)) (now (syn .exit)) ⌝ }
-{
-    let lag = z.t1 + z.t2 + 1;
-    if t <= data_of(z, s) {
-        mend(out, syn, z, s, t, p, 1 - s, p + (lag - t));
     }
 }
 
@@ -145,7 +111,7 @@ fn by_vertical(out: &mut [u8], syn: &mut [u8], z: Sizes, s: usize, t: usize, p: 
     requires { ⌜ p < track-length (shape z) ⌝ }
     ensures { λ _. ⌜ ByVertical z s t p (now (out .entry)) (now (out .exit)) (now (syn .exit)) ⌝ }
 {
-    if t < data_of(z, s) + 2 {
+    if t < syndrome::data_tracks(z, s) + 2 {
         mend(out, syn, z, s, t, p, 2 + s, p);
     }
 }
@@ -157,7 +123,7 @@ fn clear_cell(out: &mut [u8], syn: &mut [u8], z: Sizes, s: usize, t: usize, p: u
     ensures { λ _. ⌜ Settled z (tracks (shape z) (set-of s)) s t p (cells (shape z) (now (out .entry)) (set-of s) t p) (now (out .entry)) (now (out .exit)) (now (syn .exit)) ⌝ }
 {
     let l = z.positions + (z.t1 + z.t2 + 1);
-    let i = number_of(z, s, t) * l + p;
+    let i = syndrome::track_number(z, s, t) * l + p;
     if out[i] != 0 {
         syndrome::flip(out, syn, z, s, t, p);
     }
@@ -174,26 +140,120 @@ fn by_tail(out: &mut [u8], syn: &mut [u8], z: Sizes, s: usize, t: usize, p: usiz
         by_own(out, syn, z, s, t, p);
         return;
     }
-    if t <= data_of(z, s) {
+    if t <= syndrome::data_tracks(z, s) {
         clear_cell(out, syn, z, s, t, p);
         return;
     }
     by_vertical(out, syn, z, s, t, p);
 }
 
+// Adds the syndrome at i to a cell at a position of the data.
+fn settle(
+    out: &mut [u8],
+    syn: &mut [u8],
+    z: Sizes,
+    s: usize,
+    t: usize,
+    line: Line,
+    p: usize,
+    i: usize,
+)
+    requires { ⌜ Kept z (now out) (now syn) ⌝ }
+    requires { ⌜ IsTrack z s t ⌝ }
+    requires { ⌜ LineOf z s t line ⌝ }
+    requires { ⌜ p < z .positions ⌝ }
+    requires { ⌜ i < length (now syn) ⌝ }
+    ensures { λ _. ⌜ Settled z (tracks (shape z) (set-of s)) s t p (getD (now (syn .entry)) i 0) (now (out .entry)) (now (out .exit)) (now (syn .exit)) ⌝ }
+{
+    let w = syn[i];
+    syndrome::add_cell(out, syn, z, s, t, line, p, w);
+}
+
+// Makes a cell at a position of the data right by the diagonal of its own set.
+fn low_at(out: &mut [u8], syn: &mut [u8], z: Sizes, s: usize, t: usize, line: Line, p: usize)
+    requires { ⌜ Kept z (now out) (now syn) ⌝ }
+    requires { ⌜ s < 2 ⌝ }
+    requires { ⌜ LineOf z s t line ⌝ }
+    requires { ⌜ p < z .positions ⌝ }
+    ensures { λ _. ⌜ ByOwn z s t p (now (out .entry)) (now (out .exit)) (now (syn .exit)) ⌝ }
+{
+    if t <= syndrome::data_tracks(z, s) {
+        settle(out, syn, z, s, t, line, p, line.own + p);
+    }
+}
+
+// The same by the diagonal of the other set.
+fn high_at(out: &mut [u8], syn: &mut [u8], z: Sizes, s: usize, t: usize, line: Line, p: usize)
+    requires { ⌜ Kept z (now out) (now syn) ⌝ }
+    requires { ⌜ s < 2 ⌝ }
+    requires { ⌜ LineOf z s t line ⌝ }
+    requires { ⌜ p < z .positions ⌝ }
+    ensures { λ _. ⌜ ByOther z s t p (now (out .entry)) (now (out .exit)) (now (syn .exit)) ⌝ }
+{
+    if t <= syndrome::data_tracks(z, s) {
+        settle(out, syn, z, s, t, line, p, line.other + p);
+    }
+}
+
+// The same by the vertical.
+fn last_at(out: &mut [u8], syn: &mut [u8], z: Sizes, s: usize, t: usize, line: Line, p: usize)
+    requires { ⌜ Kept z (now out) (now syn) ⌝ }
+    requires { ⌜ s < 2 ⌝ }
+    requires { ⌜ LineOf z s t line ⌝ }
+    requires { ⌜ p < z .positions ⌝ }
+    ensures { λ _. ⌜ ByVertical z s t p (now (out .entry)) (now (out .exit)) (now (syn .exit)) ⌝ }
+{
+    if t < syndrome::data_tracks(z, s) + 2 {
+        settle(out, syn, z, s, t, line, p, line.vertical + p);
+    }
+}
+
 // Solves a set at a position of the data.
-fn step(out: &mut [u8], syn: &mut [u8], z: Sizes, s: usize, plan: Plan, m: usize)
+fn step(
+    out: &mut [u8],
+    syn: &mut [u8],
+    z: Sizes,
+    s: usize,
+    plan: Plan,
+    low: Line,
+    high: Line,
+    last: Line,
+    m: usize,
+)
     requires { ⌜ Kept z (now out) (now syn) ⌝ }
     requires { ⌜ s < 2 ⌝ }
     requires { ⌜ m < z .positions ⌝ }
+    requires { ⌜ LineOf z s (plan .low) low ⌝ }
+    requires { ⌜ LineOf z s (plan .high) high ⌝ }
+    requires { ⌜ LineOf z s (plan .last) last ⌝ }
     ensures { λ _. ⌜ Stepped z s plan m (now (out .entry)) (now (out .exit)) (now (syn .exit)) ⌝ }
 {
-    let low = plan.low;
-    let high = plan.high;
-    let last = plan.last;
-    by_own(out, syn, z, s, low, m);
-    by_other(out, syn, z, s, high, m);
-    by_vertical(out, syn, z, s, last, m);
+    low_at(out, syn, z, s, plan.low, low, m);
+    high_at(out, syn, z, s, plan.high, high, m);
+    last_at(out, syn, z, s, plan.last, last, m);
+}
+
+// The same where two tracks are named at the most.
+fn step_two(
+    out: &mut [u8],
+    syn: &mut [u8],
+    z: Sizes,
+    s: usize,
+    plan: Plan,
+    low: Line,
+    last: Line,
+    m: usize,
+)
+    requires { ⌜ Kept z (now out) (now syn) ⌝ }
+    requires { ⌜ s < 2 ⌝ }
+    requires { ⌜ m < z .positions ⌝ }
+    requires { ⌜ LineOf z s (plan .low) low ⌝ }
+    requires { ⌜ LineOf z s (plan .last) last ⌝ }
+    requires { ⌜ tracks (shape z) (set-of s) ≤ plan .high ⌝ }
+    ensures { λ _. ⌜ Stepped z s plan m (now (out .entry)) (now (out .exit)) (now (syn .exit)) ⌝ }
+{
+    low_at(out, syn, z, s, plan.low, low, m);
+    last_at(out, syn, z, s, plan.last, last, m);
 }
 
 // Solves a set at a position of the tail.
@@ -218,32 +278,47 @@ fn sums_zero(syn: &[u8], l: usize, m: usize) -> bool
     requires { ⌜ m < l ⌝ }
     ensures { λ r. ⌜ SumsZero (now (syn .entry)) l m r ⌝ }
 {
-    if syn[m] != 0 {
-        return false;
+    let most = syn[m] | syn[l + m] | syn[2 * l + m] | syn[3 * l + m];
+    if most == 0 {
+        return true;
     }
-    if syn[l + m] != 0 {
-        return false;
-    }
-    if syn[2 * l + m] != 0 {
-        return false;
-    }
-    if syn[3 * l + m] != 0 {
-        return false;
-    }
-    true
+    false
 }
 
-// Makes one track of a set right at every position by the verticals, where `high` is a track of the other set.
-fn ahead(out: &mut [u8], syn: &mut [u8], z: Sizes, s: usize, t: usize, high: usize)
+// The position after m, of at most 2048. The remainder changes nothing: it makes the compiler use m itself as the index in each row.
+fn next(m: usize) -> usize
+    requires { ⌜ m < 2048 ⌝ }
+    ensures { λ r. ⌜ r ≡ m + 1 ⌝ }
+{
+    (m + 1) % 4096
+}
+
+// Makes one track of a set right by the verticals, at the positions of the data from `from` up to `to`.
+fn verticals(out: &mut [u8], syn: &mut [u8], z: Sizes, s: usize, t: usize, from: usize, to: usize)
     requires { ⌜ Kept z (now out) (now syn) ⌝ }
     requires { ⌜ s < 2 ⌝ }
-    ensures { λ _. ⌜ Ahead z s t high (track-length (shape z)) (now (out .entry)) (now (out .exit)) (now (syn .exit)) ⌝ }
+    requires { ⌜ from ≤ to ⌝ }
+    requires { ⌜ to ≤ z .positions ⌝ }
+    ensures { λ _. ⌜ Ahead z s t from to (now (out .entry)) (now (out .exit)) (now (syn .exit)) ⌝ }
 {
-    if NONE <= high {
-        return;
+    let line = syndrome::find_line(z, s, t);
+    let mut p = from;
+    while p < to {
+        last_at(out, syn, z, s, t, line, p);
+        p += 1;
     }
-    let l = z.positions + (z.t1 + z.t2 + 1);
-    let mut p = 0;
+}
+
+// The same at every position.
+fn ahead(out: &mut [u8], syn: &mut [u8], z: Sizes, s: usize, t: usize)
+    requires { ⌜ Kept z (now out) (now syn) ⌝ }
+    requires { ⌜ s < 2 ⌝ }
+    ensures { λ _. ⌜ Ahead z s t 0 (track-length (shape z)) (now (out .entry)) (now (out .exit)) (now (syn .exit)) ⌝ }
+{
+    let positions = z.positions;
+    let l = positions + (z.t1 + z.t2 + 1);
+    verticals(out, syn, z, s, t, 0, positions);
+    let mut p = positions;
     while p < l {
         by_vertical(out, syn, z, s, t, p);
         p += 1;
@@ -286,23 +361,125 @@ fn quiet(syn: &[u8], z: Sizes) -> usize
     m
 }
 
-// The positions of the data. False: a sum that no later position touches is not 0.
-fn solve_data(out: &mut [u8], syn: &mut [u8], z: Sizes, a: Plan, b: Plan) -> bool
+// Does a plan name one track at the most?
+fn is_single(z: Sizes, s: usize, plan: Plan) -> bool
+    requires { ⌜ Small z ⌝ }
+    ensures { λ r. ⌜ SingleTested (shape z) (set-of s) plan r ⌝ }
+{
+    let count = syndrome::data_tracks(z, s) + 2;
+    if plan.low < count {
+        return false;
+    }
+    if plan.high < count {
+        return false;
+    }
+    true
+}
+
+// Where the block of positions that begins at m ends, `to` at the latest.
+fn block_end(m: usize, to: usize) -> usize
+    requires { ⌜ m < to ⌝ }
+    ensures { λ r. ⌜ BlockEnd m to r ⌝ }
+{
+    if to - m < 128 {
+        return to;
+    }
+    m + 128
+}
+
+// The data where neither set has more than one track to be made right. False: no record fits.
+fn solve_singles(out: &mut [u8], syn: &mut [u8], z: Sizes, a: Plan, b: Plan) -> bool
     requires { ⌜ Kept z (now out) (now syn) ⌝ }
+    requires { ⌜ Single (shape z) (set-of 0) a ⌝ }
+    requires { ⌜ Single (shape z) (set-of 1) b ⌝ }
+    ensures { λ r. ⌜ DataSolved z a b (now (out .entry)) (now (out .exit)) (now (syn .exit)) r ⌝ }
+{
+    let positions = z.positions;
+    let mut m = quiet(syn, z);
+    while m < positions {
+        let end = block_end(m, positions);
+        verticals(out, syn, z, 0, a.last, m, end);
+        verticals(out, syn, z, 1, b.last, m, end);
+        if !columns_zero(syn, z, m, end) {
+            return false;
+        }
+        m = end;
+    }
+    true
+}
+
+// The data of one set, where the other set is right.
+fn solve_set(out: &mut [u8], syn: &mut [u8], z: Sizes, s: usize, plan: Plan) -> bool
+    requires { ⌜ Kept z (now out) (now syn) ⌝ }
+    requires { ⌜ s < 2 ⌝ }
+    ensures { λ r. ⌜ SetSolved z s plan (now (out .entry)) (now (out .exit)) (now (syn .exit)) r ⌝ }
+{
+    let positions = z.positions;
+    let l = positions + (z.t1 + z.t2 + 1);
+    let low = syndrome::find_line(z, s, plan.low);
+    let high = syndrome::find_line(z, s, plan.high);
+    let last = syndrome::find_line(z, s, plan.last);
+    let mut m = quiet(syn, z);
+    while m < positions {
+        step(out, syn, z, s, plan, low, high, last, m);
+        if !sums_zero(syn, l, m) {
+            return false;
+        }
+        m = next(m);
+    }
+    true
+}
+
+// The data of both sets, of which neither has three tracks to be made right.
+fn solve_pairs(out: &mut [u8], syn: &mut [u8], z: Sizes, a: Plan, b: Plan) -> bool
+    requires { ⌜ Kept z (now out) (now syn) ⌝ }
+    requires { ⌜ tracks (shape z) (set-of 0) ≤ a .high ⌝ }
+    requires { ⌜ tracks (shape z) (set-of 1) ≤ b .high ⌝ }
     ensures { λ r. ⌜ DataSolved z a b (now (out .entry)) (now (out .exit)) (now (syn .exit)) r ⌝ }
 {
     let positions = z.positions;
     let l = positions + (z.t1 + z.t2 + 1);
+    let a_low = syndrome::find_line(z, 0, a.low);
+    let a_last = syndrome::find_line(z, 0, a.last);
+    let b_low = syndrome::find_line(z, 1, b.low);
+    let b_last = syndrome::find_line(z, 1, b.last);
     let mut m = quiet(syn, z);
     while m < positions {
-        step(out, syn, z, 0, a, m);
-        step(out, syn, z, 1, b, m);
+        step_two(out, syn, z, 0, a, a_low, a_last, m);
+        step_two(out, syn, z, 1, b, b_low, b_last, m);
         if !sums_zero(syn, l, m) {
             return false;
         }
-        m += 1;
+        m = next(m);
     }
     true
+}
+
+// The positions of the data. False: no record fits.
+fn solve_data(out: &mut [u8], syn: &mut [u8], z: Sizes, a: Plan, b: Plan) -> bool
+    requires { ⌜ Kept z (now out) (now syn) ⌝ }
+    ensures { λ r. ⌜ AllSolved z a b (now (out .entry)) (now (out .exit)) (now (syn .exit)) r ⌝ }
+{
+    if is_single(z, 0, a) {
+        if is_single(z, 1, b) {
+            return solve_singles(out, syn, z, a, b);
+        }
+        // Beside more tracks of a set, the one of the other set is made right first.
+        ahead(out, syn, z, 0, a.last);
+        return solve_set(out, syn, z, 1, b);
+    }
+    if is_single(z, 1, b) {
+        ahead(out, syn, z, 1, b.last);
+        return solve_set(out, syn, z, 0, a);
+    }
+    // Three tracks beside more than one are too many.
+    if a.high < z.t1 + 2 {
+        return false;
+    }
+    if b.high < z.t2 + 2 {
+        return false;
+    }
+    solve_pairs(out, syn, z, a, b)
 }
 
 // The positions of the tail.
@@ -325,13 +502,6 @@ pub fn solve(out: &mut [u8], syn: &mut [u8], z: Sizes, a: Plan, b: Plan) -> bool
     requires { ⌜ Kept z (now out) (now syn) ⌝ }
     ensures { λ r. ⌜ Solved z a b (now (out .entry)) (now (out .exit)) (now (syn .exit)) r ⌝ }
 {
-    let a_high = a.high;
-    let b_high = b.high;
-    let a_last = a.last;
-    let b_last = b.last;
-    // Beside three flagged tracks of a set, the one of the other set is made right first.
-    ahead(out, syn, z, 1, b_last, a_high);
-    ahead(out, syn, z, 0, a_last, b_high);
     if !solve_data(out, syn, z, a, b) {
         return false;
     }

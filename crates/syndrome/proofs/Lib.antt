@@ -5,3 +5,4 @@ pub mod Law
 pub mod Gathering
 pub mod Turning
 pub mod Testing
+pub mod Adding

@@ -23,7 +23,7 @@ use Rattle.syndrome.proofs.Table.{row-in, row-added}
 use Rattle.syndrome.proofs.Law.{holds-same}
 
 -- D^i is added to a list of bits whose cell i is turned over.
-turned-at : (xs : List ℕ) (i : ℕ) → i < length xs → ((j : ℕ) → getD xs j 0 < 2) → (j : ℕ) →
+pub turned-at : (xs : List ℕ) (i : ℕ) → i < length xs → ((j : ℕ) → getD xs j 0 < 2) → (j : ℕ) →
     getD (set xs i (1 - getD xs i 0)) j 0 ≡ (getD xs j 0 + mono i j) % 2
 turned-at xs i h bits j = by-cases (ℕ-discrete j i)
     (λ e. rw (e, getD-set-same xs i (1 - getD xs i 0) 0 h, mono-hit i i refl) (omega (arith, bits i)))

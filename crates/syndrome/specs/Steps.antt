@@ -3,12 +3,13 @@ use mathlib.Core.Path.{_≡_}
 use mathlib.Core.Logic.{_≢_}
 use mathlib.Core.Bool.{Bool, true, false}
 use mathlib.Core.List.{List}
-use Prim.Native.Nat.{ℕ, _+_, _*_, _<_, _≤_, _%_}
-use lib.ListN.{length, getD}
+use Prim.Native.Nat.{ℕ, _+_, _*_, _-_, _<_, _≤_, _%_}
+use lib.ListN.{length, getD, set}
 use Rattle.code.specs.Record.{TrackSet, Shape, data-tracks, tracks, track-length, Cells, back}
 use Rattle.code.specs.Image.{track-number, image-size}
 use Rattle.code.specs.Sizes.{shape, Small}
 use Rattle.code.specs.declared.Sizes.{Sizes}
+use Rattle.track.specs.Track.{Bits}
 use Rattle.code.proofs.Linear.{_⊞_}
 use Rattle.code.proofs.OneTrack.{put}
 use Rattle.syndrome.specs.Syndrome.{set-of, Holds}
@@ -59,6 +60,13 @@ pub record RowAdded (l row : ℕ) (f : ℕ → ℕ) (off : ℕ) (before after : 
   pub rows : Rows l after
   pub here : (m : ℕ) → m < l → getD after (row * l + m) 0 ≡ (getD before (row * l + m) 0 + back f m off) % 2
   pub there : (r m : ℕ) → r ≢ row → m < l → getD after (r * l + m) 0 ≡ getD before (r * l + m) 0
+
+-- w is added modulo 2 to cell i.
+pub record BitAdded (xs : List ℕ) (i w : ℕ) (after : List ℕ) : Type 0 where
+  pub size : length after ≡ length xs
+  pub bits : Bits after
+  pub zero : w ≡ 0 → after ≡ xs
+  pub one : w ≡ 1 → after ≡ set xs i (1 - getD xs i 0)
 
 -- Syndromes of a record become those of the record to which f is added on one track.
 pub record TrackAdded (sh : Shape) (s : TrackSet) (t : ℕ) (f : ℕ → ℕ) (before after : List ℕ) : Type 0 where

@@ -4,10 +4,11 @@ use mathlib.Core.Bool.{Bool, true, false}
 use mathlib.Core.List.{List}
 use Prim.Native.Nat.{ℕ, zero, suc, _+_, _*_, _-_, _<_, _≤_, _%_}
 use lib.ListN.{length, getD, set}
-use Rattle.code.specs.Record.{TrackSet, A, B, Shape, tracks, track-length, Cells, diagonal, vertical, Good}
+use Rattle.code.specs.Record.{TrackSet, A, B, Shape, tracks, lag, track-length, Cells, diagonal, vertical, Good}
 use Rattle.code.specs.Image.{track-number, image-size, cells}
 use Rattle.code.specs.Sizes.{shape, Small}
 use Rattle.code.specs.declared.Sizes.{Sizes}
+use Rattle.syndrome.specs.declared.Line.{Line}
 
 -- The set of the code's number 0 or 1, and its number.
 abbrev pub set-of : ℕ → TrackSet
@@ -54,6 +55,19 @@ turned z s t p out = set out (index z s t p) (1 - getD out (index z s t p) 0)
 pub record Flipped (z : Sizes) (s t p : ℕ) (out after syn : List ℕ) : Type 0 where
   pub cell : after ≡ turned z s t p out
   pub kept : Kept z after syn
+
+-- Where the cells of track t begin, if a set has it: in the image, and in the rows of its set's diagonal, of the other set's and of its vertical.
+pub record LineOf (z : Sizes) (s t : ℕ) (line : Line) : Type 0 where
+  pub cell : t < tracks (shape z) (set-of s) → line .cell ≡ track-number (shape z) (set-of s) t * track-length (shape z)
+  pub own : t < tracks (shape z) (set-of s) → line .own ≡ s * track-length (shape z) + t
+  pub other : t < tracks (shape z) (set-of s) → line .other ≡ (1 - s) * track-length (shape z) + (lag (shape z) - t)
+  pub vertical : t < tracks (shape z) (set-of s) → line .vertical ≡ (2 + s) * track-length (shape z)
+
+-- What `add_cell` gives: the cell is turned over if w is 1, and the syndromes are those of the new copy.
+pub record CellAdded (z : Sizes) (s t p w : ℕ) (out after syn : List ℕ) : Type 0 where
+  pub kept : Kept z after syn
+  pub zero : w ≡ 0 → after ≡ out
+  pub one : w ≡ 1 → after ≡ turned z s t p out
 
 -- r says whether the record is good.
 pub record Tested (sh : Shape) (x : Cells) (r : Bool) : Type 0 where

@@ -1,13 +1,14 @@
-// The syndromes of an image, and the one function that turns a cell over and keeps them.
+// The syndromes of an image, and the functions that change a cell and keep them.
 use code::Sizes;
 ghost use mathlib.Core.Path.{_≡_};
-ghost use Prim.Native.Nat.{_*_, _<_};
+ghost use Prim.Native.Nat.{_+_, _*_, _<_};
 ghost use lib.ListN.{length};
 ghost use Rattle.code.specs.Record.{track-length};
+ghost use Rattle.track.specs.Track.{Bits};
 ghost use Rattle.code.specs.Image.{cells};
 ghost use Rattle.code.specs.Sizes.{shape, Small};
 ghost use Rattle.code.proofs.Mono.{mono};
-ghost use Rattle.syndrome.specs.Syndrome.{set-of, Holds, Image, Kept, IsCell, Flipped, Tested};
+ghost use Rattle.syndrome.specs.Syndrome.{set-of, Holds, Image, Kept, IsCell, Flipped, LineOf, CellAdded, Tested};
 ghost use Rattle.syndrome.specs.Steps.{
   IsTrack,
   DataTracks,
@@ -18,12 +19,13 @@ ghost use Rattle.syndrome.specs.Steps.{
   Rows,
   Ready,
   RowAdded,
+  BitAdded,
   TrackAdded,
   TailTested,
 };
 
 // The number of data tracks of a set.
-fn data_tracks(z: Sizes, s: usize) -> usize
+pub fn data_tracks(z: Sizes, s: usize) -> usize
     ensures { λ r. ⌜ DataTracks z s r ⌝ }
 {
     if s == 0 { z.t1 } else { z.t2 }
@@ -37,7 +39,7 @@ fn most_tracks(z: Sizes) -> usize
 }
 
 // The track number of track t of a set.
-fn track_number(z: Sizes, s: usize, t: usize) -> usize
+pub fn track_number(z: Sizes, s: usize, t: usize) -> usize
     requires { ⌜ IsTrack z s t ⌝ }
     ensures { λ r. ⌜ TrackNumber z s t r ⌝ }
 {
@@ -143,6 +145,74 @@ pub fn flip(out: &mut [u8], syn: &mut [u8], z: Sizes, s: usize, t: usize, p: usi
     let i = track_number(z, s, t) * l + p;
     out[i] = 1 - out[i];
     turn_sums(syn, z, s, t, p);
+}
+
+// Where the cells of a track begin: in the image, and in the rows of its set's diagonal, of the other set's and of its vertical.
+pub struct Line {
+    pub cell: usize,
+    pub own: usize,
+    pub other: usize,
+    pub vertical: usize,
+}
+
+// The line of track t of a set. A number past the set's tracks has none.
+pub fn find_line(z: Sizes, s: usize, t: usize) -> Line
+    requires { ⌜ Small z ⌝ }
+    requires { ⌜ s < 2 ⌝ }
+    ensures { λ r. ⌜ LineOf z s t r ⌝ }
+{
+    if data_tracks(z, s) + 2 <= t {
+        return Line {
+            cell: 0,
+            own: 0,
+            other: 0,
+            vertical: 0,
+        };
+    }
+    let lag = z.t1 + z.t2 + 1;
+    let l = z.positions + lag;
+    Line {
+        cell: track_number(z, s, t) * l,
+        own: s * l + t,
+        other: (1 - s) * l + (lag - t),
+        vertical: (2 + s) * l,
+    }
+}
+
+// Adds a bit to a cell of a list.
+fn add_bit(xs: &mut [u8], i: usize, w: u8)
+    requires { ⌜ Bits (now xs) ⌝ }
+    requires { ⌜ i < length (now xs) ⌝ }
+    requires { ⌜ w < 2 ⌝ }
+    ensures { λ _. ⌜ BitAdded (now (xs .entry)) i w (now (xs .exit)) ⌝ }
+{
+    xs[i] = xs[i] ^ w;
+}
+
+// Adds a bit to a cell at a position of the data, and to the syndromes that it stands in. Does the same whether the bit is 0 or 1.
+pub fn add_cell(
+    out: &mut [u8],
+    syn: &mut [u8],
+    z: Sizes,
+    s: usize,
+    t: usize,
+    line: Line,
+    p: usize,
+    w: u8,
+)
+    requires { ⌜ Kept z (now out) (now syn) ⌝ }
+    requires { ⌜ IsTrack z s t ⌝ }
+    requires { ⌜ LineOf z s t line ⌝ }
+    requires { ⌜ p < z .positions ⌝ }
+    requires { ⌜ w < 2 ⌝ }
+    ensures { λ _. ⌜ CellAdded z s t p w (now (out .entry)) (now (out .exit)) (now (syn .exit)) ⌝ }
+{
+    add_bit(out, line.cell + p, w);
+    add_bit(syn, line.vertical + p, w);
+    if t <= data_tracks(z, s) {
+        add_bit(syn, line.own + p, w);
+        add_bit(syn, line.other + p, w);
+    }
 }
 
 // Are the data tracks of a set 0 in the tail?

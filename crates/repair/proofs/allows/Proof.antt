@@ -11,10 +11,6 @@ use Rattle.repair.specs.Steps.{extra-at}
 use Rattle.repair.proofs.Choices.{size-le, free-unflagged, unflagged-free, refuses, allowed-at}
 use Rattle.repair.proofs.allows.Statement.{statement}
 use Rattle.repair.proofs.allows.Tie as tie
-use Rattle.repair.proofs.allows.Reads as reads
-use Rattle.repair.proofs.allows.Lts as lts
-use Rattle.repair.proofs.is_free.Reads as is-free-reads
-use Rattle.repair.proofs.size_of.Reads as size-of-reads
 
 size-of-requires : tie.Need-size-of-requires
 size-of-requires c κs = search needs

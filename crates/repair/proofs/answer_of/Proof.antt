@@ -5,17 +5,11 @@ use native.Mathlib.Omega.{arith}
 use denote.Ref.{now}
 use borrow.Author.Needs.{needs}
 use Rattle.code.specs.Record.{A, tracks, track-length}
-use Rattle.code.specs.Reach.{Extra}
 use Rattle.code.specs.Sizes.{shape}
-use Rattle.code.specs.Answers.{extra-of}
 use Rattle.repair.specs.Steps.{named-at}
 use Rattle.repair.proofs.Naming.{has-extra}
 use Rattle.repair.proofs.answer_of.Statement.{statement}
 use Rattle.repair.proofs.answer_of.Tie as tie
-use Rattle.repair.proofs.answer_of.Reads as reads
-use Rattle.repair.proofs.answer_of.Lts as lts
-use Rattle.repair.proofs.count_changes.Reads as count-changes-reads
-use Rattle.repair.proofs.named.Reads as named-reads
 
 add-l : tie.Need-add-l
 add-l c = search needs
@@ -43,7 +37,7 @@ returns c =
     let s = c .before .before .before .before .before .before .before .before .before .args in
     let t = c .before .before .before .count-changes .ensures in
     let e : s .z .t1 + 2 ≡ tracks (shape (s .z)) A = omega arith in
-    let in-b = c .named2 .ensures ∙ ap (λ (n : ℕ). named-at (track-length (shape (s .z))) (now (s .image)) (now (s .out)) n (s .b)) e in
+    let in-b = rw e at (c .named2 .ensures) in
     λ i. record { answer = 0; detail = 0; mask = t .mask-is i; changed = t .cells-are i; extra-a = c .before .before .named .ensures i; extra-b = in-b i }
 
 pub answer-of-spec : {M : Type 1} → statement M

@@ -1,17 +1,12 @@
 -- `check`: each number is given where its check applies and no earlier one does.
-use mathlib.Core.Path.{_≡_, refl, sym, ap, _∙_}
+use mathlib.Core.Path.{_≡_, refl, ap, _∙_}
 use mathlib.Core.Logic.{_⊎_, inl, inr, ⊎-elim}
-use Prim.Native.Nat.{ℕ, _+_, _*_, _<_, _≤_}
+use Prim.Native.Nat.{_<_}
 use native.Mathlib.Omega.{arith}
 use borrow.Author.Needs.{needs}
-use lib.ListN.{length}
 use Rattle.code.specs.Calls.{plain}
 use Rattle.repair.proofs.check.Statement.{statement}
 use Rattle.repair.proofs.check.Tie as tie
-use Rattle.repair.proofs.check.Reads as reads
-use Rattle.repair.proofs.check.Lts as lts
-use Rattle.code.proofs.plain_answer.Reads as plain-answer-reads
-use Rattle.track.proofs.first_bad_cell.Reads as first-bad-cell-reads
 
 -- The checks that are passed at each place.
 counted : (c : tie.Else2) → let n = c .before .before .before .args .blocks in (n ≡ 0) ⊎ (256 < n) → ⊥

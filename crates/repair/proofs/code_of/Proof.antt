@@ -5,24 +5,16 @@ use Rattle.code.specs.Reach.{reach-code}
 use Rattle.repair.proofs.Words.{word-code}
 use Rattle.repair.proofs.code_of.Statement.{statement}
 use Rattle.repair.proofs.code_of.Tie as tie
-use Rattle.repair.proofs.code_of.Reads as reads
-use Rattle.repair.proofs.code_of.Lts as lts
-use Rattle.code.proofs.reach.Reads as reach-reads
-use Rattle.repair.proofs.count_flags.Reads as count-flags-reads
 
--- src/lib.rt:48:17
 count-flags-requires : tie.Need-count-flags-requires
 count-flags-requires c κs = search needs
 
--- src/lib.rt:48:40
 count-flags-requires-2 : tie.Need-count-flags-requires-2
 count-flags-requires-2 c κs = search needs
 
--- src/lib.rt:48:5
 reach-requires : tie.Need-reach-requires
 reach-requires c κs = search needs
 
--- src/lib.rt:45:1
 returns : tie.Need-returns
 returns c =
     let a = c .before .before .count-flags .ensures in

@@ -1,7 +1,7 @@
 -- `count_changes`: the loop's invariant is that `mask` and `count` are those of the first g tracks, and `place` is bit g.
 use mathlib.Core.Path.{_≡_, sym, _∙_}
 use mathlib.Core.Logic.{⊎-elim}
-use Prim.Native.Nat.{ℕ, _+_, _*_, _^_, _<_, _≤_, _-_}
+use Prim.Native.Nat.{_*_, _^_, _<_, _≤_, _-_}
 use native.Mathlib.Numerals.{add-one}
 use native.Mathlib.Omega.{arith}
 use borrow.Author.Needs.{needs}
@@ -15,9 +15,6 @@ use Rattle.repair.specs.Steps.{changed-at}
 use Rattle.repair.proofs.Stretches.{has-track, changed-le, cells-sum, mask-sum, mask-some, mask-none, unmarked-unchanged}
 use Rattle.repair.proofs.count_changes.Statement.{statement}
 use Rattle.repair.proofs.count_changes.Tie as tie
-use Rattle.repair.proofs.count_changes.Reads as reads
-use Rattle.repair.proofs.count_changes.Lts as lts
-use Rattle.repair.proofs.count_track.Reads as count-track-reads
 
 abbrev Inv-loop : tie.InvT-loop
 Inv-loop marks image out l all mask₀ count₀ place₀ g₀ mask count place g =
@@ -29,13 +26,14 @@ abbrev μ-loop : tie.MeasureT-loop
 -- Where the arms meet, `changed` is the number of the track's changed cells, marked or not.
 changed : (c : tie.Joined1 Inv-loop μ-loop) →
     let s = c .before .before .before .before .before .before .before .before .before .before .args in
-    (c .if1 .changed ≡ changed-at (track-length (shape (s .z))) (now (s .image)) (now (s .out)) (c .before .before .before .loop .g)) × (c .if1 .changed ≤ 2063)
-changed c =
-    let s = c .before .before .before .before .before .before .before .before .before .before in
-    let g = c .before .before .before .loop .g in
-    let e : c .if1 .changed ≡ changed-at (track-length (shape (s .args .z))) (now (s .args .image)) (now (s .args .out)) g =
-    ⊎-elim (λ w. w .2 ∙ w .1 .ensures) (λ w. w .1 ∙ sym (unmarked-unchanged _ _ _ _ (s .pre) g (omega arith) (w .0 .left))) (c .if1 .came) in
-    (e, omega (arith, changed-le (shape (s .args .z)) (now (s .args .image)) (now (s .args .out)) g (omega arith)))
+    c .if1 .changed ≡ changed-at (track-length (shape (s .z))) (now (s .image)) (now (s .out)) (c .before .before .before .loop .g)
+changed c = ⊎-elim (λ w. w .2 ∙ w .1 .ensures)
+    (λ w. w .1 ∙ sym (unmarked-unchanged _ _ _ _ (c .before .before .before .before .before .before .before .before .before .before .pre) _ (omega arith) (w .0 .left))) (c .if1 .came)
+
+few : (c : tie.Joined1 Inv-loop μ-loop) → c .if1 .changed ≤ 2063
+few c =
+    let s = c .before .before .before .before .before .before .before .before .before .before .args in
+    omega (arith, changed c, changed-le (shape (s .z)) (now (s .image)) (now (s .out)) (c .before .before .before .loop .g) (omega arith))
 
 add-l : tie.Need-add-l Inv-loop μ-loop
 add-l c = search needs
@@ -63,10 +61,10 @@ count-track-requires : tie.Need-count-track-requires Inv-loop μ-loop
 count-track-requires c κs = has-track _ _ _ _ (c .before .before .before .before .before .before .before .before .before .before .pre) _ (omega arith)
 
 cast-count : tie.Need-cast-count Inv-loop μ-loop
-cast-count c = omega (arith, changed (c .before))
+cast-count c = omega (arith, few (c .before))
 
 add-count : tie.Need-add-count Inv-loop μ-loop
-add-count c = omega (arith, changed (c .before))
+add-count c = omega (arith, few (c .before))
 
 add-mask : tie.Need-add-mask Inv-loop μ-loop
 add-mask c = omega (arith, pow-mono {i = c .before .before .before .before .before .loop .g} {j = 18} (omega arith))
@@ -84,15 +82,16 @@ loop-again : tie.Need-loop-again Inv-loop μ-loop
 unfolding sum
 loop-again c =
     let l = c .before .before .before .before .before .loop in
-    let h = changed (c .before .before) in (
+    let h = changed (c .before .before) in
+    let g = add-one (l .g) in (
       search needs,
       ⊎-elim (λ w. omega arith) (λ w. omega arith) (c .if2 .came),
-      omega arith,
-      rw add-one (omega arith),
-      rw add-one (omega arith),
-      rw add-one (⊎-elim
-          (λ w. omega (arith, mask-some (l .g) _ (λ z. w .0 .taken (h .0 ∙ z))))
-          (λ w. omega (arith, mask-none (l .g) _ (sym (h .0) ∙ w .0 .left)))
+      omega (arith, few (c .before .before)),
+      rw g (omega arith),
+      rw g (omega arith),
+      rw g (⊎-elim
+          (λ w. omega (arith, mask-some (l .g) _ (λ z. w .0 .taken (h ∙ z))))
+          (λ w. omega (arith, mask-none (l .g) _ (sym h ∙ w .0 .left)))
           (c .if2 .came)),
     )
 

@@ -11,8 +11,6 @@ use Rattle.repair.specs.Steps.{flags-in}
 use Rattle.repair.proofs.Words.{halved, bit-is}
 use Rattle.repair.proofs.count_flags.Statement.{statement}
 use Rattle.repair.proofs.count_flags.Tie as tie
-use Rattle.repair.proofs.count_flags.Reads as reads
-use Rattle.repair.proofs.count_flags.Lts as lts
 
 abbrev Inv-loop : tie.InvT-loop
 Inv-loop word n count₀ rest₀ t₀ count rest t = (t ≤ n) × (count ≤ t) × (rest ≡ word / 2 ^ t) × (count ≡ flags-in word t)

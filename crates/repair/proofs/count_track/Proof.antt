@@ -4,9 +4,6 @@ use borrow.Author.Needs.{needs}
 use Rattle.repair.proofs.Stretches.{part-changed}
 use Rattle.repair.proofs.count_track.Statement.{statement}
 use Rattle.repair.proofs.count_track.Tie as tie
-use Rattle.repair.proofs.count_track.Reads as reads
-use Rattle.repair.proofs.count_track.Lts as lts
-use Rattle.track.proofs.count_differing.Reads as count-differing-reads
 
 mul-start : tie.Need-mul-start
 mul-start c = search needs

@@ -5,8 +5,6 @@ use borrow.Author.Needs.{needs}
 use Rattle.repair.proofs.Choices.{free-by}
 use Rattle.repair.proofs.is_free.Statement.{statement}
 use Rattle.repair.proofs.is_free.Tie as tie
-use Rattle.repair.proofs.is_free.Reads as reads
-use Rattle.repair.proofs.is_free.Lts as lts
 
 returns : tie.Need-returns
 returns c = record { yes-free = λ f t h. absurd (omega arith); not-free = λ f. absurd (true≢false f) }

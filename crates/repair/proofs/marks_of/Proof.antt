@@ -1,15 +1,12 @@
 -- `marks_of`: the loop's invariant is that the first g marks are the lowest g bits of the word, and `rest` the bits above them.
 use mathlib.Core.Path.{_≡_, ap}
-use Prim.Native.Nat.{ℕ, _≤_, _<_, _-_, _/_, _%_, _^_}
+use Prim.Native.Nat.{ℕ, _≤_, _-_, _/_, _%_, _^_}
 use native.Mathlib.Omega.{arith}
 use borrow.Author.Needs.{needs}
-use lib.ListN.{length, getD}
 use Rattle.track.proofs.Cells.{Written, written-none, written-more}
 use Rattle.repair.proofs.Words.{halved}
 use Rattle.repair.proofs.marks_of.Statement.{statement}
 use Rattle.repair.proofs.marks_of.Tie as tie
-use Rattle.repair.proofs.marks_of.Reads as reads
-use Rattle.repair.proofs.marks_of.Lts as lts
 
 abbrev Inv-loop : tie.InvT-loop
 Inv-loop flags marks₀ rest₀ g₀ marks rest g = (g ≤ 18) × (rest ≡ flags / 2 ^ g) × Written marks₀ (λ k. flags / 2 ^ k % 2) 0 g marks

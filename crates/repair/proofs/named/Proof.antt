@@ -4,9 +4,6 @@ use borrow.Author.Needs.{needs}
 use Rattle.repair.proofs.Naming.{extra-has, named-none, named-same, named-changed}
 use Rattle.repair.proofs.named.Statement.{statement}
 use Rattle.repair.proofs.named.Tie as tie
-use Rattle.repair.proofs.named.Reads as reads
-use Rattle.repair.proofs.named.Lts as lts
-use Rattle.repair.proofs.count_track.Reads as count-track-reads
 
 returns : tie.Need-returns
 returns c = sym (named-none _ _ _ _ _ (c .if1 .taken))

@@ -1,11 +1,9 @@
 -- `one_more`: one mark is set, if there is an extra.
 use native.Mathlib.Omega.{arith}
 use borrow.Author.Needs.{needs}
-use Rattle.repair.proofs.Choices.{more-none, more-some}
+use Rattle.repair.proofs.Choices.{more-some}
 use Rattle.repair.proofs.one_more.Statement.{statement}
 use Rattle.repair.proofs.one_more.Tie as tie
-use Rattle.repair.proofs.one_more.Reads as reads
-use Rattle.repair.proofs.one_more.Lts as lts
 
 sub-wide : tie.Need-sub-wide
 sub-wide c = search needs

@@ -15,12 +15,6 @@ use Rattle.repair.specs.Steps.{early-checks}
 use Rattle.repair.proofs.Calling.{refused, passed, room, passed-given, refused-code, repaired}
 use Rattle.repair.proofs.repair.Statement.{statement}
 use Rattle.repair.proofs.repair.Tie as tie
-use Rattle.repair.proofs.repair.Reads as reads
-use Rattle.repair.proofs.repair.Lts as lts
-use Rattle.code.proofs.plain_answer.Reads as plain-answer-reads
-use Rattle.repair.proofs.check.Reads as check-reads
-use Rattle.repair.proofs.code_of.Reads as code-of-reads
-use Rattle.repair.proofs.repair_record.Reads as repair-record-reads
 
 -- Past the checks.
 passes : (c : tie.Else1) → let a = c .before .before .before .before .before .args in Passed (early-checks (a .blocks) (a .flags) (now (a .image)) (now (a .out)))

@@ -1,19 +1,11 @@
 -- `repair_record`: the output is a copy of the image and `syn` holds its syndromes, so the marked tracks can be worked with.
-use mathlib.Core.Path.{_≡_, sym}
+use mathlib.Core.Path.{sym}
 use native.Mathlib.Omega.{arith}
 use borrow.Author.Needs.{needs}
 use lib.Seq.{length-take-le}
 use Rattle.repair.proofs.Records.{given-copy, given-workable, worked-only, repair-found, repair-none}
 use Rattle.repair.proofs.repair_record.Statement.{statement}
 use Rattle.repair.proofs.repair_record.Tie as tie
-use Rattle.repair.proofs.repair_record.Reads as reads
-use Rattle.repair.proofs.repair_record.Lts as lts
-use Rattle.code.proofs.plain_answer.Reads as plain-answer-reads
-use Rattle.repair.proofs.answer_of.Reads as answer-of-reads
-use Rattle.repair.proofs.marks_of.Reads as marks-of-reads
-use Rattle.repair.proofs.work.Reads as work-reads
-use Rattle.syndrome.proofs.syndromes.Reads as syndromes-reads
-use Rattle.track.proofs.copy_into.Reads as copy-into-reads
 
 add-l : tie.Need-add-l
 add-l c = search needs

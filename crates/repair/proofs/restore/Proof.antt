@@ -7,9 +7,6 @@ use borrow.Author.Needs.{needs}
 use Rattle.repair.proofs.Stretches.{has-track, Restoring, restoring-none, restoring-by, restoring-back, restored}
 use Rattle.repair.proofs.restore.Statement.{statement}
 use Rattle.repair.proofs.restore.Tie as tie
-use Rattle.repair.proofs.restore.Reads as reads
-use Rattle.repair.proofs.restore.Lts as lts
-use Rattle.repair.proofs.restore_track.Reads as restore-track-reads
 
 abbrev Inv-loop : tie.InvT-loop
 Inv-loop marks image out₀ l all g₀ out g = (g ≤ all) × Restoring l all marks image out g

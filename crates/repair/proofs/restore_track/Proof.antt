@@ -3,9 +3,6 @@ use borrow.Author.Needs.{needs}
 use Rattle.repair.proofs.Stretches.{track-back}
 use Rattle.repair.proofs.restore_track.Statement.{statement}
 use Rattle.repair.proofs.restore_track.Tie as tie
-use Rattle.repair.proofs.restore_track.Reads as reads
-use Rattle.repair.proofs.restore_track.Lts as lts
-use Rattle.track.proofs.copy_into.Reads as copy-into-reads
 
 mul-start : tie.Need-mul-start
 mul-start c = search needs

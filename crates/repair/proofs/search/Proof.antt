@@ -5,13 +5,9 @@ use Prim.Native.Nat.{_+_, _-_, _≤_}
 use native.Mathlib.Omega.{arith}
 use borrow.Author.Needs.{needs}
 use lib.ListN.{length}
-use Rattle.repair.specs.Steps.{IsChoice}
 use Rattle.repair.proofs.Searching.{Seeking, seeking-none, seeking-more, seeking-row, seeking-all, searched}
 use Rattle.repair.proofs.search.Statement.{statement}
 use Rattle.repair.proofs.search.Tie as tie
-use Rattle.repair.proofs.search.Reads as reads
-use Rattle.repair.proofs.search.Lts as lts
-use Rattle.repair.proofs.try_choice.Reads as try-choice-reads
 
 abbrev Inv-loop : tie.InvT-loop
 Inv-loop z code marks image out₀ first syn₀ in-a in-b found₀ a b₀ out syn found b =

@@ -3,8 +3,6 @@ use borrow.Author.Needs.{needs}
 use Rattle.repair.proofs.Choices.{size-some}
 use Rattle.repair.proofs.size_of.Statement.{statement}
 use Rattle.repair.proofs.size_of.Tie as tie
-use Rattle.repair.proofs.size_of.Reads as reads
-use Rattle.repair.proofs.size_of.Lts as lts
 
 returns : tie.Need-returns
 returns c = search needs

@@ -1,22 +1,12 @@
 -- `trace_record`: the output is a copy of the image and `first` holds its syndromes, so the search finds what is in reach.
-use mathlib.Core.Path.{_≡_, sym, ap, _∙_}
+use mathlib.Core.Path.{sym, _∙_}
 use native.Mathlib.Omega.{arith}
 use borrow.Author.Needs.{needs}
 use borrow.Author.Tests.{not-true, not-false}
-use lib.ListN.{length}
 use lib.Seq.{length-take-le}
 use Rattle.repair.proofs.Records.{given-copy, given-traceable, searched-only, trace-found, trace-none}
 use Rattle.repair.proofs.trace_record.Statement.{statement}
 use Rattle.repair.proofs.trace_record.Tie as tie
-use Rattle.repair.proofs.trace_record.Reads as reads
-use Rattle.repair.proofs.trace_record.Lts as lts
-use Rattle.code.proofs.plain_answer.Reads as plain-answer-reads
-use Rattle.repair.proofs.answer_of.Reads as answer-of-reads
-use Rattle.repair.proofs.marks_of.Reads as marks-of-reads
-use Rattle.repair.proofs.search.Reads as search-reads
-use Rattle.repair.proofs.widen.Reads as widen-reads
-use Rattle.syndrome.proofs.syndromes.Reads as syndromes-reads
-use Rattle.track.proofs.copy_into.Reads as copy-into-reads
 
 add-l : tie.Need-add-l
 add-l c = search needs

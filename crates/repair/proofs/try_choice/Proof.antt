@@ -1,17 +1,10 @@
 -- `try_choice`: the marks with the extras are those of the flags with the choice.
 use mathlib.Core.Path.{sym}
-use native.Mathlib.Omega.{arith}
 use borrow.Author.Needs.{needs}
 use borrow.Author.Tests.{not-true, not-false}
 use Rattle.repair.proofs.Working.{copied-all, code-le, choice-workable, choice-tried, choice-passed}
 use Rattle.repair.proofs.try_choice.Statement.{statement}
 use Rattle.repair.proofs.try_choice.Tie as tie
-use Rattle.repair.proofs.try_choice.Reads as reads
-use Rattle.repair.proofs.try_choice.Lts as lts
-use Rattle.repair.proofs.allows.Reads as allows-reads
-use Rattle.repair.proofs.widen.Reads as widen-reads
-use Rattle.repair.proofs.work.Reads as work-reads
-use Rattle.track.proofs.copy_into.Reads as copy-into-reads
 
 allows-requires : tie.Need-allows-requires
 allows-requires c κs = let s = c .before .before .before .before in (s .pre .1 .1 .1, code-le _ _ _ _ _ (s .pre .0))

@@ -6,9 +6,6 @@ use Rattle.code.specs.Sizes.{shape}
 use Rattle.repair.proofs.Choices.{widened}
 use Rattle.repair.proofs.widen.Statement.{statement}
 use Rattle.repair.proofs.widen.Tie as tie
-use Rattle.repair.proofs.widen.Reads as reads
-use Rattle.repair.proofs.widen.Lts as lts
-use Rattle.repair.proofs.one_more.Reads as one-more-reads
 
 one-more-requires : tie.Need-one-more-requires
 one-more-requires c κs = search needs

@@ -5,11 +5,6 @@ use Rattle.code.specs.Record.{A, B}
 use Rattle.repair.proofs.Working.{workable-kept, solved-only, worked-good, worked-none}
 use Rattle.repair.proofs.work.Statement.{statement}
 use Rattle.repair.proofs.work.Tie as tie
-use Rattle.repair.proofs.work.Reads as reads
-use Rattle.repair.proofs.work.Lts as lts
-use Rattle.repair.proofs.restore.Reads as restore-reads
-use Rattle.solver.proofs.make_plan.Reads as make-plan-reads
-use Rattle.solver.proofs.solve.Reads as solve-reads
 
 make-plan-requires : tie.Need-make-plan-requires
 make-plan-requires c κs = let w = c .before .before .before .before .pre in (w .kept .small, (omega arith, (w .marks-size, w .within .in-set A)))

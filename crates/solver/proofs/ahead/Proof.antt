@@ -1,4 +1,4 @@
--- The invariant: the track is right before p. The measure is what is left of it.
+-- The invariant: the track is right in the tail before p. The measure is what is left of it.
 use mathlib.Core.Path.{_≡_}
 use Prim.Native.Nat.{_-_, _≤_}
 use native.Mathlib.Omega.{arith}
@@ -6,18 +6,15 @@ use borrow.Author.Needs.{needs}
 use Rattle.code.specs.Record.{track-length}
 use Rattle.code.specs.Sizes.{shape}
 use Rattle.solver.specs.Steps.{Ahead}
-use Rattle.solver.proofs.Advancing.{ahead-none, ahead-skip, ahead-more}
+use Rattle.solver.proofs.Advancing.{ahead-none, ahead-more, ahead-join}
 use Rattle.solver.proofs.ahead.Statement.{statement}
 use Rattle.solver.proofs.ahead.Tie as tie
 
 abbrev Inv-loop : tie.InvT-loop
-Inv-loop out₀ syn₀ z s t high l p₀ out syn p = (p ≤ l) × Ahead z s t high p out₀ out syn
+Inv-loop out₀ syn₀ z s t positions l p₀ out syn p = (p ≤ l) × Ahead z s t positions p out₀ out syn
 
 abbrev μ-loop : tie.MeasureT-loop
-μ-loop out₀ syn₀ z s t high l p₀ out syn p = l - p
-
-returns : tie.Need-returns Inv-loop μ-loop
-returns c = ahead-skip (c .before .before .before .pre .0) (c .if1 .taken)
+μ-loop out₀ syn₀ z s t positions l p₀ out syn p = l - p
 
 add-l : tie.Need-add-l Inv-loop μ-loop
 add-l c = search needs
@@ -28,8 +25,11 @@ add-l-2 c = search needs
 add-l-3 : tie.Need-add-l-3 Inv-loop μ-loop
 add-l-3 c = search needs
 
+verticals-requires : tie.Need-verticals-requires Inv-loop μ-loop
+verticals-requires c κs = let s = c .before .before .before .before .before in (s .pre .0, (s .pre .1, (omega arith, omega arith)))
+
 loop-holds : tie.Need-loop-holds Inv-loop μ-loop
-loop-holds c = (omega arith, ahead-none (c .before .before .before .before .before .pre .0))
+loop-holds c = (omega arith, ahead-none (c .before .before .before .before .verticals .ensures .kept))
 
 by-vertical-requires : tie.Need-by-vertical-requires Inv-loop μ-loop
 by-vertical-requires c κs = search needs
@@ -43,8 +43,8 @@ loop-less c = search needs
 loop-again : tie.Need-loop-again Inv-loop μ-loop
 loop-again c =
     let r = c .before .before .before .before in
-    let l = r .before .before .before .before in
-    (omega arith, ahead-more (r .before .before .before .loop-test .taken) (l .loop .inv .1) (r .by-vertical .ensures))
+    let i = r .before .before .before in
+    (omega arith, ahead-more (i .loop-test .taken) (i .before .loop .inv .1) (r .by-vertical .ensures))
 
 same-length : tie.Need-same-length Inv-loop μ-loop
 same-length c = search needs
@@ -52,12 +52,13 @@ same-length c = search needs
 same-length-2 : tie.Need-same-length-2 Inv-loop μ-loop
 same-length-2 c = search needs
 
-returns-2 : tie.Need-returns-2 Inv-loop μ-loop
-returns-2 c =
+returns : tie.Need-returns Inv-loop μ-loop
+returns c =
     let l = c .before .loop in
-    let a = c .before .before .before .before .before .before .before .args in
+    let v = c .before .before .before .before .before .before in
+    let a = v .before .before .before .before .before .before .args in
     let e : l .p ≡ track-length (shape (a .z)) = omega arith in
-    rw e at (l .inv .1)
+    ahead-join (omega arith) (v .verticals .ensures) (rw e at (l .inv .1))
 
 pub ahead-spec : {M : Type 1} → statement M
 ahead-spec =
@@ -65,10 +66,10 @@ ahead-spec =
     (tie.spec
     Inv-loop
     μ-loop
-    returns
     add-l
     add-l-2
     add-l-3
+    verticals-requires
     loop-holds
     by-vertical-requires
     add-p
@@ -76,4 +77,4 @@ ahead-spec =
     loop-again
     same-length
     same-length-2
-    returns-2)
+    returns)

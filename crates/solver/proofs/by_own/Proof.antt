@@ -11,8 +11,8 @@ use Rattle.solver.proofs.by_own.Tie as tie
 here : (c : tie.Then1) → let a = c .before .before .before .before .args in a .p + a .t < track-length (shape (a .z))
 here c = c .before .before .before .before .pre .1 .1 (omega arith)
 
-data-of-requires : tie.Need-data-of-requires
-data-of-requires c κs = search needs
+data-tracks-requires : tie.Need-data-tracks-requires
+data-tracks-requires c κs = search needs
 
 add-mend : tie.Need-add-mend
 add-mend c = omega (arith, here (c .before .before))
@@ -41,4 +41,4 @@ returns-2 c = search needs
 pub by-own-spec : {M : Type 1} → statement M
 by-own-spec =
     tie.close
-    (tie.spec data-of-requires add-mend mend-requires same-length same-length-2 returns returns-2)
+    (tie.spec data-tracks-requires add-mend mend-requires same-length same-length-2 returns returns-2)

@@ -19,8 +19,8 @@ returns c =
     let r = c .before .before .before .before in
     settled-check (r .before .before .before .if1 .taken) (r .by-own .ensures)
 
-data-of-requires : tie.Need-data-of-requires
-data-of-requires c κs = search needs
+data-tracks-requires : tie.Need-data-tracks-requires
+data-tracks-requires c κs = search needs
 
 clear-cell-requires : tie.Need-clear-cell-requires
 clear-cell-requires c κs = search needs
@@ -58,7 +58,7 @@ by-tail-spec =
     same-length
     same-length-2
     returns
-    data-of-requires
+    data-tracks-requires
     clear-cell-requires
     same-length-3
     same-length-4

@@ -5,8 +5,8 @@ use borrow.Author.Needs.{needs}
 use Rattle.solver.proofs.by_vertical.Statement.{statement}
 use Rattle.solver.proofs.by_vertical.Tie as tie
 
-data-of-requires : tie.Need-data-of-requires
-data-of-requires c κs = search needs
+data-tracks-requires : tie.Need-data-tracks-requires
+data-tracks-requires c κs = search needs
 
 add-if1 : tie.Need-add-if1
 add-if1 c = search needs
@@ -38,7 +38,7 @@ pub by-vertical-spec : {M : Type 1} → statement M
 by-vertical-spec =
     tie.close
     (tie.spec
-    data-of-requires
+    data-tracks-requires
     add-if1
     add-mend
     mend-requires

@@ -9,28 +9,27 @@ use Rattle.code.specs.Image.{cells}
 use Rattle.code.specs.Sizes.{shape}
 use Rattle.code.proofs.Places.{cell-lt}
 use Rattle.syndrome.specs.Syndrome.{set-of, index}
-use Rattle.solver.proofs.Sets.{data-small}
 use Rattle.solver.proofs.Settling.{settled-turned, settled-same}
 use borrow.Author.Needs.{needs}
 use Rattle.solver.proofs.clear_cell.Statement.{statement}
 use Rattle.solver.proofs.clear_cell.Tie as tie
 
 -- The cell is one of the copy.
-inside : (c : tie.After-number-of) →
+inside : (c : tie.After-track-number) →
     let a = c .before .before .before .before .before .args in
-    c .number-of .result * track-length (shape (a .z)) + a .p < length (now (a .out))
+    c .track-number .result * track-length (shape (a .z)) + a .p < length (now (a .out))
 inside c =
     let s = c .before .before .before .before .before in
     let a = s .args in
-    rw (c .number-of .ensures .is)
+    rw (c .track-number .ensures .is)
     (omega (arith, cell-lt (shape (a .z)) (set-of (a .s)) (a .t) (a .p) (s .pre .1 .track-small) (s .pre .1 .position-small), s .pre .0 .image .size))
 
-read : (c : tie.After-number-of) →
+read : (c : tie.After-track-number) →
     let a = c .before .before .before .before .before .args in
-    getD (now (a .out)) (c .number-of .result * track-length (shape (a .z)) + a .p) 0 ≡ cells (shape (a .z)) (now (a .out)) (set-of (a .s)) (a .t) (a .p)
+    getD (now (a .out)) (c .track-number .result * track-length (shape (a .z)) + a .p) 0 ≡ cells (shape (a .z)) (now (a .out)) (set-of (a .s)) (a .t) (a .p)
 read c =
     let a = c .before .before .before .before .before .args in
-    ap (λ (k : ℕ). getD (now (a .out)) (k * track-length (shape (a .z)) + a .p) 0) (c .number-of .ensures .is)
+    ap (λ (k : ℕ). getD (now (a .out)) (k * track-length (shape (a .z)) + a .p) 0) (c .track-number .ensures .is)
 
 add-l : tie.Need-add-l
 add-l c = search needs
@@ -41,10 +40,8 @@ add-l-2 c = search needs
 add-l-3 : tie.Need-add-l-3
 add-l-3 c = search needs
 
-number-of-requires : tie.Need-number-of-requires
-number-of-requires c κs =
-    let s = c .before .before .before .before in
-    (s .pre .0 .small, omega (arith, data-small (s .args .z) (s .pre .0 .small) (set-of (s .args .s)), s .pre .1 .track-small))
+track-number-requires : tie.Need-track-number-requires
+track-number-requires c κs = search needs
 
 mul-i : tie.Need-mul-i
 mul-i c = omega (arith, inside c)
@@ -85,7 +82,7 @@ clear-cell-spec =
     add-l
     add-l-2
     add-l-3
-    number-of-requires
+    track-number-requires
     mul-i
     add-i
     slice-read-if1

@@ -1,7 +1,11 @@
 -- The four rows one after the other.
+use Prim.Native.Nat.{_+_, _*_}
+use native.Mathlib.Omega.{arith}
 use borrow.Author.Needs.{needs}
-use borrow.Author.Tests.{not-false}
-use Rattle.solver.proofs.Waiting.{columns-unknown, columns-known}
+use borrow.Author.Tests.{not-true, not-false}
+use Rattle.code.specs.Record.{track-length}
+use Rattle.code.specs.Sizes.{shape}
+use Rattle.solver.proofs.Waiting.{columns-some, columns-known}
 use Rattle.solver.proofs.columns_zero.Statement.{statement}
 use Rattle.solver.proofs.columns_zero.Tie as tie
 
@@ -27,7 +31,9 @@ all-zero-requires : tie.Need-all-zero-requires
 all-zero-requires c κs = search needs
 
 returns : tie.Need-returns
-returns c = columns-unknown
+returns c =
+    let a = c .before .before .before .before .before .before .args in
+    columns-some 0 (a .from) (a .to) (omega arith) (omega arith) (omega arith) (omega arith) (c .before .all-zero .ensures) (not-true _ (c .if1 .taken))
 
 add-all-zero : tie.Need-add-all-zero
 add-all-zero c = search needs
@@ -48,7 +54,9 @@ all-zero-requires-2 : tie.Need-all-zero-requires-2
 all-zero-requires-2 c κs = search needs
 
 returns-2 : tie.Need-returns-2
-returns-2 c = columns-unknown
+returns-2 c =
+    let a = c .before .before .before .before .before .before .before .before .before .args in
+    columns-some 1 (track-length (shape (a .z)) + a .from) (track-length (shape (a .z)) + a .to) (omega arith) (omega arith) (omega arith) (omega arith) (c .before .all-zero2 .ensures) (not-true _ (c .if2 .taken))
 
 mul-all-zero : tie.Need-mul-all-zero
 mul-all-zero c = search needs
@@ -75,7 +83,9 @@ all-zero-requires-3 : tie.Need-all-zero-requires-3
 all-zero-requires-3 c κs = search needs
 
 returns-3 : tie.Need-returns-3
-returns-3 c = columns-unknown
+returns-3 c =
+    let a = c .before .before .before .before .before .before .before .before .before .before .before .before .args in
+    columns-some 2 (2 * track-length (shape (a .z)) + a .from) (2 * track-length (shape (a .z)) + a .to) (omega arith) (omega arith) (omega arith) (omega arith) (c .before .all-zero3 .ensures) (not-true _ (c .if3 .taken))
 
 mul-all-zero-3 : tie.Need-mul-all-zero-3
 mul-all-zero-3 c = search needs
@@ -107,7 +117,7 @@ returns-4 c =
     let e₂ = e₃ .before .before .before in
     let e₁ = e₂ .before .before .before in
     let a = e₁ .before .before .before .before .before .before .args in
-    columns-known _ _ (a .from) (a .to) (e₁ .before .all-zero .ensures) (not-false _ (e₁ .if1 .left)) (e₂ .before .all-zero2 .ensures)
+    columns-known _ _ (a .from) (a .to) _ (omega arith) (e₁ .before .all-zero .ensures) (not-false _ (e₁ .if1 .left)) (e₂ .before .all-zero2 .ensures)
     (not-false _ (e₂ .if2 .left)) (e₃ .before .all-zero3 .ensures) (not-false _ (e₃ .if3 .left)) (c .all-zero4 .ensures)
 
 pub columns-zero-spec : {M : Type 1} → statement M

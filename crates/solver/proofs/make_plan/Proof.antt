@@ -28,35 +28,35 @@ abbrev μ-loop : tie.MeasureT-loop
 μ-loop marks s «data» first i₀ j₀ k₀ t₀ i j k t = «data» + 2 - t
 
 -- The set's marks, as the loop reads them.
-read : (c : tie.After-number-of Inv-loop μ-loop) (u : ℕ) →
+read : (c : tie.After-track-number Inv-loop μ-loop) (u : ℕ) →
     let a = c .before .before .before .args in
-    marked (shape (a .z)) (now (a .marks)) (set-of (a .s)) u ≡ eqb (getD (now (a .marks)) (c .number-of .result + u) 0) 1
+    marked (shape (a .z)) (now (a .marks)) (set-of (a .s)) u ≡ eqb (getD (now (a .marks)) (c .track-number .result + u) 0) 1
 read c u =
     let a = c .before .before .before .args in
-    let n = c .number-of .ensures .is in
+    let n = c .track-number .ensures .is in
     ap (λ (k : ℕ). eqb (getD (now (a .marks)) k 0) 1) (omega (arith, number-from (shape (a .z)) (set-of (a .s)) u))
 
 -- There are few of them.
-few : (c : tie.After-number-of Inv-loop μ-loop) (t : ℕ) → t < c .before .data-of .result + 2 →
-    count (suc t) (λ u. eqb (getD (now (c .before .before .before .args .marks)) (c .number-of .result + u) 0) 1) ≤ 3
+few : (c : tie.After-track-number Inv-loop μ-loop) (t : ℕ) → t < c .before .data-tracks .result + 2 →
+    count (suc t) (λ u. eqb (getD (now (c .before .before .before .args .marks)) (c .track-number .result + u) 0) 1) ≤ 3
 unfolding flag-count
 few c t l =
     let a = c .before .before .before .args in
     let p = c .before .before .before .pre .1 .1 .1 in
-    let d = c .before .data-of .ensures .is in
-    let g : ℕ → Bool = λ u. eqb (getD (now (a .marks)) (c .number-of .result + u) 0) 1 in
+    let d = c .before .data-tracks .ensures .is in
+    let g : ℕ → Bool = λ u. eqb (getD (now (a .marks)) (c .track-number .result + u) 0) 1 in
     omega (
       arith,
       count-le g (suc t) (tracks (shape (a .z)) (set-of (a .s))) (omega arith),
       sum-same (tracks (shape (a .z)) (set-of (a .s))) _ _ (λ u h. ap bit (read c u)),
     )
 
-inside : (c : tie.After-number-of Inv-loop μ-loop) (t : ℕ) → t < c .before .data-of .result + 2 →
-    c .number-of .result + t < length (now (c .before .before .before .args .marks))
+inside : (c : tie.After-track-number Inv-loop μ-loop) (t : ℕ) → t < c .before .data-tracks .result + 2 →
+    c .track-number .result + t < length (now (c .before .before .before .args .marks))
 inside c t l =
     let a = c .before .before .before .args in
-    let n = c .number-of .ensures .is in
-    let d = c .before .data-of .ensures .is in
+    let n = c .track-number .ensures .is in
+    let d = c .before .data-tracks .ensures .is in
     let p = c .before .before .before .pre .1 .1 .0 in
     omega (arith, number-from (shape (a .z)) (set-of (a .s)) t, number-lt (shape (a .z)) (set-of (a .s)) t (omega arith))
 
@@ -67,7 +67,7 @@ seen : (c : tie.After-loop Inv-loop μ-loop) →
     Newest (marked (shape (a .z)) (now (a .marks)) (set-of (a .s))) (tracks (shape (a .z)) (set-of (a .s))) (l .i) (l .j) (l .k)
 seen c =
     let v = c .before .loop .inv in
-    let d = c .before .before .before .data-of .ensures .is in
+    let d = c .before .before .before .data-tracks .ensures .is in
     let a = c .before .before .before .before .before .args in
     let e : c .before .loop .t ≡ tracks (shape (a .z)) (set-of (a .s)) = omega arith in
     newest-by (λ u. sym (read (c .before .before) u)) (rw e at (v .1))
@@ -75,19 +75,19 @@ seen c =
 small : (c : tie.After-loop Inv-loop μ-loop) →
     let a = c .before .before .before .before .before .args in
     tracks (shape (a .z)) (set-of (a .s)) ≤ 16
-small c = let d = c .before .before .before .data-of .ensures in omega arith
+small c = let d = c .before .before .before .data-tracks .ensures in omega arith
 
 -- The vertical track.
 top : (c : tie.After-loop Inv-loop μ-loop) →
     let a = c .before .before .before .before .before .args in
-    c .before .before .before .data-of .result + 1 ≡ suc (data-tracks (shape (a .z)) (set-of (a .s)))
-top c = let d = c .before .before .before .data-of .ensures in omega arith
+    c .before .before .before .data-tracks .result + 1 ≡ suc (data-tracks (shape (a .z)) (set-of (a .s)))
+top c = let d = c .before .before .before .data-tracks .ensures in omega arith
 
-data-of-requires : tie.Need-data-of-requires Inv-loop μ-loop
-data-of-requires c κs = search needs
+data-tracks-requires : tie.Need-data-tracks-requires Inv-loop μ-loop
+data-tracks-requires c κs = search needs
 
-number-of-requires : tie.Need-number-of-requires Inv-loop μ-loop
-number-of-requires c κs = search needs
+track-number-requires : tie.Need-track-number-requires Inv-loop μ-loop
+track-number-requires c κs = search needs
 
 loop-holds : tie.Need-loop-holds Inv-loop μ-loop
 loop-holds c = (omega arith, newest-none _)
@@ -96,7 +96,7 @@ add-loop : tie.Need-add-loop Inv-loop μ-loop
 add-loop c = search needs
 
 add-if1 : tie.Need-add-if1 Inv-loop μ-loop
-add-if1 c = search needs
+add-if1 c = omega (arith, inside (c .before .before) (c .before .loop .t) (c .loop-test .taken))
 
 shared-slice-read-if1 : tie.Need-shared-slice-read-if1 Inv-loop μ-loop
 shared-slice-read-if1 c = inside (c .before .before .before) (c .before .before .loop .t) (c .before .loop-test .taken)
@@ -145,8 +145,8 @@ make-plan-spec =
     (tie.spec
     Inv-loop
     μ-loop
-    data-of-requires
-    number-of-requires
+    data-tracks-requires
+    track-number-requires
     loop-holds
     add-loop
     add-if1

@@ -1,15 +1,9 @@
--- The sets ahead, the data, the tail and the test, one after the other.
+-- The data, the tail and the test, one after the other.
 use borrow.Author.Tests.{not-true, not-false}
 use Rattle.solver.proofs.Advancing.{solved-none, solved}
 use borrow.Author.Needs.{needs}
 use Rattle.solver.proofs.solve.Statement.{statement}
 use Rattle.solver.proofs.solve.Tie as tie
-
-ahead-requires : tie.Need-ahead-requires
-ahead-requires c κs = search needs
-
-ahead-requires-2 : tie.Need-ahead-requires-2
-ahead-requires-2 c κs = search needs
 
 solve-data-requires : tie.Need-solve-data-requires
 solve-data-requires c κs = search needs
@@ -23,10 +17,8 @@ same-length-2 c = search needs
 returns : tie.Need-returns
 returns c =
     let d = c .before .before .before .before .before in
-    let w = d .before .before .before .before .before .before .before in
-    let v = w .before .before .before .before .before .before .before in
-    let a = v .before .before .before .before .before .args in
-    solved-none (a .a) (a .b) (v .ahead .ensures) (w .ahead2 .ensures) (d .solve-data .ensures) (not-true _ (c .if1 .taken))
+    let a = d .before .before .before .before .before .args in
+    solved-none (a .a) (a .b) (d .solve-data .ensures) (not-true _ (c .if1 .taken))
 
 solve-tail-requires : tie.Need-solve-tail-requires
 solve-tail-requires c κs = search needs
@@ -45,17 +37,13 @@ returns-2 c =
     let u = c .before .before .before .before .before .before .before in
     let e = u .before .before .before in
     let d = e .before .before .before .before .before in
-    let w = d .before .before .before .before .before .before .before in
-    let v = w .before .before .before .before .before .before .before in
-    let a = v .before .before .before .before .before .args in
-    solved (a .a) (a .b) (v .ahead .ensures) (w .ahead2 .ensures) (d .solve-data .ensures) (not-false _ (e .if1 .left)) (u .solve-tail .ensures) (c .is-good .ensures)
+    let a = d .before .before .before .before .before .args in
+    solved (a .a) (a .b) (d .solve-data .ensures) (not-false _ (e .if1 .left)) (u .solve-tail .ensures) (c .is-good .ensures)
 
 pub solve-spec : {M : Type 1} → statement M
 solve-spec =
     tie.close
     (tie.spec
-    ahead-requires
-    ahead-requires-2
     solve-data-requires
     same-length
     same-length-2

@@ -1,101 +1,139 @@
--- The invariant: all before m is solved. The measure is what is left of the data.
-use Prim.Native.Nat.{_-_, _≤_}
+-- By how many tracks the plans name.
+use mathlib.Core.Path.{refl}
 use native.Mathlib.Omega.{arith}
+use Rattle.solver.proofs.Advancing.{pairs-solved, set-solved, none-beside}
 use borrow.Author.Needs.{needs}
-use borrow.Author.Tests.{not-true}
-use Rattle.solver.specs.Steps.{Advanced}
-use Rattle.solver.proofs.Advancing.{advanced-more, data-none, data-done}
-use Rattle.solver.proofs.Waiting.{advanced-quiet}
 use Rattle.solver.proofs.solve_data.Statement.{statement}
 use Rattle.solver.proofs.solve_data.Tie as tie
 
-abbrev Inv-loop : tie.InvT-loop
-Inv-loop out₀ syn₀ z a b positions l m₀ out syn m = (m ≤ positions) × Advanced z a b 0 m out₀ out syn
+abbrev start : tie.After-is-single → tie.Start
+start c = c .before .before .before
 
-abbrev μ-loop : tie.MeasureT-loop
-μ-loop out₀ syn₀ z a b positions l m₀ out syn m = positions - m
+is-single-requires : tie.Need-is-single-requires
+is-single-requires c κs = search needs
 
-add-l : tie.Need-add-l Inv-loop μ-loop
-add-l c = search needs
+is-single-requires-2 : tie.Need-is-single-requires-2
+is-single-requires-2 c κs = search needs
 
-add-l-2 : tie.Need-add-l-2 Inv-loop μ-loop
-add-l-2 c = search needs
+solve-singles-requires : tie.Need-solve-singles-requires
+solve-singles-requires c κs =
+    let j = c .before .before in
+    let i = j .before .before in
+    (start (i .before) .pre, (i .before .is-single .ensures .yes-single (i .if1 .taken), j .before .is-single2 .ensures .yes-single (j .if2 .taken)))
 
-add-l-3 : tie.Need-add-l-3 Inv-loop μ-loop
-add-l-3 c = search needs
-
-quiet-requires : tie.Need-quiet-requires Inv-loop μ-loop
-quiet-requires c κs = search needs
-
-loop-holds : tie.Need-loop-holds Inv-loop μ-loop
-loop-holds c = let q = c .quiet .ensures in (q .within, advanced-quiet (c .before .before .before .before .before .pre) q)
-
-step-requires : tie.Need-step-requires Inv-loop μ-loop
-step-requires c κs = search needs
-
-step-requires-2 : tie.Need-step-requires-2 Inv-loop μ-loop
-step-requires-2 c κs = search needs
-
-sums-zero-requires : tie.Need-sums-zero-requires Inv-loop μ-loop
-sums-zero-requires c κs = search needs
-
-same-length : tie.Need-same-length Inv-loop μ-loop
+same-length : tie.Need-same-length
 same-length c = search needs
 
-same-length-2 : tie.Need-same-length-2 Inv-loop μ-loop
+same-length-2 : tie.Need-same-length-2
 same-length-2 c = search needs
 
-returns : tie.Need-returns Inv-loop μ-loop
+returns : tie.Need-returns
 returns c =
-    let w = c .before .before .before .before .before .before .before in
-    let v = w .before .before .before .before .before .before .before in
-    let i = v .before .before .before in
-    data-none (i .loop-test .taken) (advanced-more (omega arith) (i .before .loop .inv .1) (v .step .ensures) (w .step2 .ensures)) (c .before .sums-zero .ensures) (not-true _ (c .if1 .taken))
+    let r = c .before .before .before .before in
+    let j = r .before .before .before in
+    let i = j .before .before in
+    pairs-solved (i .before .is-single .ensures .yes-single (i .if1 .taken) .no-high) (j .before .is-single2 .ensures .yes-single (j .if2 .taken) .no-high) (r .solve-singles .ensures)
 
-add-m : tie.Need-add-m Inv-loop μ-loop
-add-m c = search needs
+ahead-requires : tie.Need-ahead-requires
+ahead-requires c κs = search needs
 
-loop-less : tie.Need-loop-less Inv-loop μ-loop
-loop-less c = search needs
+solve-set-requires : tie.Need-solve-set-requires
+solve-set-requires c κs = search needs
 
-loop-again : tie.Need-loop-again Inv-loop μ-loop
-loop-again c =
-    let w = c .before .before .before .before .before .before .before in
-    let v = w .before .before .before .before .before .before .before in
-    let i = v .before .before .before in
-    (omega arith, advanced-more (omega arith) (i .before .loop .inv .1) (v .step .ensures) (w .step2 .ensures))
-
-same-length-3 : tie.Need-same-length-3 Inv-loop μ-loop
+same-length-3 : tie.Need-same-length-3
 same-length-3 c = search needs
 
-same-length-4 : tie.Need-same-length-4 Inv-loop μ-loop
+same-length-4 : tie.Need-same-length-4
 same-length-4 c = search needs
 
-returns-2 : tie.Need-returns-2 Inv-loop μ-loop
+returns-2 : tie.Need-returns-2
 returns-2 c =
-    let l = c .before .loop in
-    data-done (omega arith) (l .inv .1)
+    let r = c .before .before .before .before in
+    let v = r .before .before .before .before .before .before .before in
+    let i = v .before .before .before .before .before in
+    let a = start (i .before) .args in
+    set-solved (a .a) (a .b) 0 (i .before .is-single .ensures .yes-single (i .if1 .taken)) (v .ahead .ensures) 1 refl (r .solve-set .ensures)
+
+is-single-requires-3 : tie.Need-is-single-requires-3
+is-single-requires-3 c κs = search needs
+
+ahead-requires-2 : tie.Need-ahead-requires-2
+ahead-requires-2 c κs = search needs
+
+solve-set-requires-2 : tie.Need-solve-set-requires-2
+solve-set-requires-2 c κs = search needs
+
+same-length-5 : tie.Need-same-length-5
+same-length-5 c = search needs
+
+same-length-6 : tie.Need-same-length-6
+same-length-6 c = search needs
+
+returns-3 : tie.Need-returns-3
+returns-3 c =
+    let r = c .before .before .before .before in
+    let v = r .before .before .before .before .before .before .before in
+    let j = v .before .before .before in
+    let a = start (j .before .before .before) .args in
+    set-solved (a .a) (a .b) 1 (j .before .is-single3 .ensures .yes-single (j .if3 .taken)) (v .ahead2 .ensures) 0 refl (r .solve-set2 .ensures)
+
+add-if4 : tie.Need-add-if4
+add-if4 c = search needs
+
+returns-4 : tie.Need-returns-4
+returns-4 c =
+    let j = c .before .before .before in
+    none-beside (start (j .before .before .before) .pre) (λ w. j .before .is-single3 .ensures .not-single (j .if3 .left) (w .in-a (omega (arith, c .if4 .taken))))
+
+add-if5 : tie.Need-add-if5
+add-if5 c = search needs
+
+returns-5 : tie.Need-returns-5
+returns-5 c =
+    let i = c .before .before .before .before .before .before .before .before in
+    none-beside (start (i .before) .pre) (λ w. i .before .is-single .ensures .not-single (i .if1 .left) (w .in-b (omega (arith, c .if5 .taken))))
+
+solve-pairs-requires : tie.Need-solve-pairs-requires
+solve-pairs-requires c κs = search needs
+
+same-length-7 : tie.Need-same-length-7
+same-length-7 c = search needs
+
+same-length-8 : tie.Need-same-length-8
+same-length-8 c = search needs
+
+returns-6 : tie.Need-returns-6
+returns-6 c =
+    let r = c .before .before .before .before in
+    let e = r .before .before .before in
+    pairs-solved (omega (arith, e .before .before .before .if4 .left)) (omega (arith, e .if5 .left)) (r .solve-pairs .ensures)
 
 pub solve-data-spec : {M : Type 1} → statement M
 solve-data-spec =
     tie.close
     (tie.spec
-    Inv-loop
-    μ-loop
-    add-l
-    add-l-2
-    add-l-3
-    quiet-requires
-    loop-holds
-    step-requires
-    step-requires-2
-    sums-zero-requires
+    is-single-requires
+    is-single-requires-2
+    solve-singles-requires
     same-length
     same-length-2
     returns
-    add-m
-    loop-less
-    loop-again
+    ahead-requires
+    solve-set-requires
     same-length-3
     same-length-4
-    returns-2)
+    returns-2
+    is-single-requires-3
+    ahead-requires-2
+    solve-set-requires-2
+    same-length-5
+    same-length-6
+    returns-3
+    add-if4
+    returns-4
+    add-if5
+    returns-5
+    solve-pairs-requires
+    same-length-7
+    same-length-8
+    returns-6)

@@ -1,0 +1,95 @@
+-- A bit is added to a cell and to the sums that it stands in.
+use mathlib.Core.Path.{_≡_, refl, ap}
+use mathlib.Core.List.{List}
+use Prim.Native.Nat.{ℕ, zero, suc, _+_, _*_, _-_, _<_, _≤_}
+use native.Mathlib.Omega.{arith}
+use native.Mathlib.Nat.{mod-lt}
+use lib.Arith.{digits-lt}
+use lib.Bits.{bitXor, xor-zero-r, xor-add-and, xor-lt}
+use lib.ListN.{length, getD, set, length-set}
+use lib.Seq.{set-getD}
+use Rattle.code.specs.Record.{data-tracks, lag, track-length}
+use Rattle.code.specs.Sizes.{shape}
+use Rattle.code.specs.declared.Sizes.{Sizes}
+use Rattle.code.proofs.Cell.{lag-sets}
+use Rattle.code.proofs.Mono.{mono}
+use Rattle.code.proofs.Places.{cell-lt}
+use Rattle.track.specs.Track.{Bits}
+use Rattle.syndrome.specs.declared.Line.{Line}
+use Rattle.syndrome.specs.Syndrome.{set-of, Kept, IsCell, LineOf, CellAdded}
+use Rattle.syndrome.specs.Steps.{IsTrack, Rows, RowAdded, BitAdded, TrackAdded}
+use Rattle.syndrome.proofs.Turning.{turned-at, turned-row, flipped}
+use Rattle.syndrome.proofs.Law.{on-diagonals, on-vertical}
+
+-- What `add_bit` gives.
+pub bit-added : (xs : List ℕ) (i w : ℕ) → Bits xs → i < length xs → w < 2 → BitAdded xs i w (set xs i (bitXor (getD xs i 0) w))
+bit-added xs i zero bits h k = rw (xor-zero-r, set-getD xs i 0) (record { size = refl; bits = bits; zero = λ _. refl; one = λ e. absurd (omega arith) })
+bit-added xs i (suc zero) bits h k =
+    let x : ℕ = getD xs i 0 in
+    let e : bitXor x 1 ≡ 1 - x = omega (arith, bits .bit i, xor-add-and x 1, xor-lt 1 x 1 (bits .bit i) k) in
+    record {
+      size = length-set xs i _;
+      bits = record { bit = λ j. rw (e, turned-at xs i h (bits .bit) j) (mod-lt _ (omega arith)) };
+      zero = λ d. absurd (omega arith);
+      one = λ _. ap (λ v. set xs i v) e;
+    }
+bit-added xs i (suc (suc w)) bits h k = absurd (omega arith)
+
+-- A bit 1 added to one row.
+one-row : (l row p off i : ℕ) (syn after : List ℕ) → Rows l syn → row < 4 → p + off < l → i ≡ row * l + (p + off) → BitAdded syn i 1 after → RowAdded l row (mono p) off syn after
+one-row l row p off i syn after rows h k e b = rw (b .one refl, e) (turned-row l row p off syn rows h k)
+
+module _ {z : Sizes} {s t : ℕ} {line : Line} {out syn : List ℕ} (p : ℕ) (kept : Kept z out syn) (track : IsTrack z s t) (at : LineOf z s t line) (h : p < z .positions) where
+  -- Each track is within the lag.
+  on : t ≤ lag (shape z)
+  on = omega (arith, lag-sets (shape z) (set-of s), track .track-small)
+
+  -- A cell of a row is within four rows.
+  row-lt : (row m : ℕ) → row < 4 → m < track-length (shape z) → row * track-length (shape z) + m < 4 * track-length (shape z)
+  row-lt row m a b = digits-lt a b
+
+  -- The syndromes are rows of bits.
+  rows : Rows (track-length (shape z)) syn
+  rows = record { size = kept .holds .size; bits = kept .holds .bits }
+
+  -- The cell is one of the record.
+  is-cell : IsCell z s t p
+  is-cell = record { set-small = track .set-small; track-small = track .track-small; position-small = omega arith }
+
+  -- The places of the cell and of its sums.
+  pub cell-in : line .cell + p < length out
+  cell-in = omega (arith, at .cell (track .track-small), cell-lt (shape z) (set-of s) t p (track .track-small) (omega arith), kept .image .size)
+
+  pub vertical-in : line .vertical + p < 4 * track-length (shape z)
+  vertical-in = omega (arith, at .vertical (track .track-small), row-lt (2 + s) p (omega (arith, track .set-small)) (omega arith))
+
+  pub own-in : line .own + p < 4 * track-length (shape z)
+  own-in = omega (arith, at .own (track .track-small), row-lt s (p + t) (omega (arith, track .set-small)) (omega (arith, on)))
+
+  pub other-in : line .other + p < 4 * track-length (shape z)
+  other-in = omega (arith, at .other (track .track-small), row-lt (1 - s) (p + (lag (shape z) - t)) (omega arith) (omega arith))
+
+  -- A bit 1 added to the cell and to its sums.
+  turned-cell : (o n : List ℕ) → BitAdded out (line .cell + p) 1 o → TrackAdded (shape z) (set-of s) t (mono p) syn n → CellAdded z s t p 1 out o n
+  turned-cell o n b a = rw (b .one refl, at .cell (track .track-small)) (record { kept = flipped z s t p out syn kept is-cell n a .kept; zero = λ e. absurd (omega arith); one = λ _. refl })
+
+  -- What `add_cell` gives on a track that crosses the diagonals.
+  pub crossed-added : (w : ℕ) (o₁ n₁ n₂ n₃ : List ℕ) → w < 2 → t ≤ data-tracks (shape z) (set-of s) →
+      BitAdded out (line .cell + p) w o₁ → BitAdded syn (line .vertical + p) w n₁ → BitAdded n₁ (line .own + p) w n₂ → BitAdded n₂ (line .other + p) w n₃ →
+      CellAdded z s t p w out o₁ n₃
+  crossed-added zero o₁ n₁ n₂ n₃ k d b v a c = rw (b .zero refl, c .zero refl, a .zero refl, v .zero refl) (record { kept = kept; zero = λ _. refl; one = λ e. absurd (omega arith) })
+  crossed-added (suc zero) o₁ n₁ n₂ n₃ k d b v a c =
+      let v′ = one-row _ (2 + s) p 0 _ syn n₁ rows (omega (arith, track .set-small)) (omega arith) (omega (arith, at .vertical (track .track-small))) v in
+      let a′ = one-row _ s p t _ n₁ n₂ (v′ .rows) (omega (arith, track .set-small)) (omega (arith, on)) (omega (arith, at .own (track .track-small))) a in
+      let c′ = one-row _ (1 - s) p (lag (shape z) - t) _ n₂ n₃ (a′ .rows) (omega arith) (omega arith) (omega (arith, at .other (track .track-small))) c in
+      turned-cell o₁ n₃ b (on-diagonals _ s t (mono p) syn n₁ n₂ n₃ (track .set-small) d v′ a′ c′)
+  crossed-added (suc (suc w)) o₁ n₁ n₂ n₃ k d b v a c = absurd (omega arith)
+
+  -- And on the vertical track.
+  pub vertical-added : (w : ℕ) (o₁ n₁ : List ℕ) → w < 2 → data-tracks (shape z) (set-of s) < t →
+      BitAdded out (line .cell + p) w o₁ → BitAdded syn (line .vertical + p) w n₁ → CellAdded z s t p w out o₁ n₁
+  vertical-added zero o₁ n₁ k d b v = rw (b .zero refl, v .zero refl) (record { kept = kept; zero = λ _. refl; one = λ e. absurd (omega arith) })
+  vertical-added (suc zero) o₁ n₁ k d b v =
+      let v′ = one-row _ (2 + s) p 0 _ syn n₁ rows (omega (arith, track .set-small)) (omega arith) (omega (arith, at .vertical (track .track-small))) v in
+      turned-cell o₁ n₁ b (on-vertical _ s t (mono p) syn n₁ (track .set-small) (track .track-small) d v′)
+  vertical-added (suc (suc w)) o₁ n₁ k d b v = absurd (omega arith)
