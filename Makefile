@@ -1,7 +1,7 @@
 # make            the library (build/libaxp.a) and the program (build/axp), proved and built
 # make demo       repairs a damaged sample and shows what was done
 # make test       everything that must pass: proofs, must-fail edits, Rust and C tests
-# make bench      the library beside plain C of the same algorithm; the plot goes to docs/bench.svg
+# make bench      the library beside plain C of the same scheme; the plot goes to docs/bench.svg
 # make install    PREFIX=/usr/local DESTDIR=
 # make clean
 

@@ -1,5 +1,5 @@
 /*
- * Side by side in one run on the same inputs: the library, plain C of the same algorithm and, where it was built in,
+ * Side by side in one run on the same inputs: the library, plain C of the same scheme and, where it was built in,
  * ISA-L's Reed-Solomon decode (14 + 4) of the same payload. It prints a table, writes a plot, and asserts nothing but
  * that all answers agree.
  *

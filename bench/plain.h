@@ -1,4 +1,4 @@
-/* The library's algorithm in plain C, written by hand: what the benchmark measures the library against. */
+/* The scheme in plain C, written by hand, position by position: what the benchmark measures the library against. */
 #ifndef PLAIN_H
 #define PLAIN_H
 

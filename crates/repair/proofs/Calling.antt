@@ -22,6 +22,7 @@ use Rattle.repair.specs.Steps.{early-checks, Checked, Given}
 
 -- ## Checks
 
+-- What the rest says may be said in other words.
 first-map : (cs : List {1} Check) (right : Check → Type 0) (r r′ : Type 0) → (r → r′) → First cs right r → First cs right r′
 first-map [] right r r′ h f = h f
 first-map (c ∷ cs) right r r′ h (inl a) = inl a
@@ -45,12 +46,15 @@ module _ (n flags : ℕ) (image out : List ℕ) (p : Passed (early-checks n flag
   abbrev size : ℕ
   size = image-size (base n)
 
+  -- The output has room.
   pub room : size ≤ length out
   room = by-cases (decLe size (length out)) (λ h. h) (λ d. absurd (p .1 .1 .0 (omega arith)))
 
+  -- The image has its size.
   length-is : length image ≡ size
   length-is = by-cases (ℕ-discrete (length image) size) (λ e. e) (λ d. absurd (p .1 .0 d))
 
+  -- Its cells are bits.
   bits : (i : ℕ) → getD image i 0 < 2
   bits i = by-cases (decLt i (first-bad image)) (first-bad-before image i) (λ d.
       rw (List·getD-eq-default image 0 {n = i} (by-cases (decLe (length image) i) (λ h. h) (λ e. absurd (p .1 .1 .1 .0 (omega arith))))) (omega arith))
@@ -79,15 +83,19 @@ module _ (sh : Shape) (image out part : List ℕ) (room : image-size sh ≤ leng
   abbrev all : List ℕ
   all = part ++ drop (image-size sh) out
 
+  -- The first bytes are the part's.
   first-bytes : (i : ℕ) → i < image-size sh → getD all i 0 ≡ getD part i 0
   first-bytes i h = List·getD-append part (drop (image-size sh) out) 0 i (omega arith)
 
+  -- So are the cells.
   all-cells : Same sh (cells sh part) (cells sh all)
   all-cells = record { cell = λ s t m l b. sym (first-bytes _ (cell-lt sh s t m l b)) }
 
+  -- A record is the same as itself.
   image-cells : Same sh (cells sh image) (cells sh image)
   image-cells = record { cell = λ s t m l b. refl }
 
+  -- Later bytes stay.
   all-stays : Stays (image-size sh) out all
   all-stays = record {
     lengths = omega (arith, length-append part (drop (image-size sh) out), length-drop (image-size sh) out);
@@ -114,13 +122,16 @@ module _ (sh : Shape) (image out part : List ℕ) (room : image-size sh ≤ leng
     result = f .result;
   })
 
+  -- Agreement with the part is agreement with the whole.
   agree-all : (flag : CellFlags) (x : Cells) → AgreeOff sh flag x (cells sh part) → AgreeOff sh flag x (cells sh all)
   agree-all flag x a = record { cell = λ s t m l b e. a .cell s t m l b e ∙ all-cells .cell s t m l b }
 
+  -- Of repair.
   repair-all : (flags : ℕ) (r : Result) → Mended sh (RepairNear sh flags image) (λ _ _. none) image (take (image-size sh) out) r part →
       Mended sh (RepairNear sh flags image) (λ _ _. none) image out r all
   repair-all flags = mended-all (RepairNear sh flags image) (λ _ _. none) (agree-all _ _) (λ s. refl)
 
+  -- Of tracing.
   trace-all : (flags : ℕ) (r : Result) → Mended sh (TraceNear sh flags image) (trace-named sh flags image) image (take (image-size sh) out) r part →
       Mended sh (TraceNear sh flags image) (trace-named sh flags image) image out r all
   trace-all flags = mended-all (TraceNear sh flags image) (trace-named sh flags image)
@@ -131,16 +142,20 @@ module _ (sh : Shape) (image out part : List ℕ) (room : image-size sh ≤ leng
 
 module _ (n flags : ℕ) (image out part : List ℕ) (r : Result) (p : Passed (early-checks n flags image out))
     (code : flags-code (base n) (word-flags (base n) flags) ≢ 0) (kept : length part ≡ length (take (image-size (base n)) out)) where
+  -- The part has the image's size.
   own-size : length part ≡ image-size (base n)
   own-size = kept ∙ length-take-le (image-size (base n)) out (room n flags image out p)
 
+  -- What is left to say where the code is not 0.
   mended-call : (after : List ℕ) (rest : Type 0) → rest → First (early-checks n flags image out) (Refused r out after) (First (reach-check (base n) flags ∷ []) (Refused r out after) rest)
   mended-call after rest m = first-passed (early-checks n flags image out) (Refused r out after) _ p (inr (code, m))
 
+  -- Repair.
   pub repaired : Mended (base n) (RepairNear (base n) flags image) (λ _ _. none) image (take (image-size (base n)) out) r part →
       Repaired n flags image out r (part ++ drop (image-size (base n)) out)
   repaired m = mended-call _ _ (repair-all (base n) image out part (room n flags image out p) own-size flags r m)
 
+  -- Tracing.
   pub traced : Mended (base n) (TraceNear (base n) flags image) (trace-named (base n) flags image) image (take (image-size (base n)) out) r part →
       Traced n flags image out r (part ++ drop (image-size (base n)) out)
   traced m = mended-call _ _ (trace-all (base n) image out part (room n flags image out p) own-size flags r m)

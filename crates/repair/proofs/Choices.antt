@@ -25,6 +25,7 @@ pub number-of : (e t : ℕ) → extra-at e ≡ extra t → e ≡ suc t
 number-of zero t h = let z : _≡_ {A = ℕ} 0 1 = cc in absurd (omega arith)
 number-of (suc u) t h = let z : u ≡ t = cc in ap suc z
 
+-- The extra track itself, and any other track.
 pub is-track : (e t : ℕ) → e ≡ suc t → is (extra-at e) t ≡ true
 is-track e t h = rw h (eq-eqb t t refl)
 
@@ -32,6 +33,7 @@ pub is-other : (e t : ℕ) → e ≢ suc t → is (extra-at e) t ≡ false
 is-other zero t d = refl
 is-other (suc u) t d = ne-eqb t u (omega arith)
 
+-- Laws of or.
 or-true : (b : Bool) → b || true ≡ true
 or-true true = refl
 or-true false = refl
@@ -40,10 +42,12 @@ or-false : (b : Bool) → b || false ≡ b
 or-false true = refl
 or-false false = refl
 
+-- An extra is one track at the most.
 pub size-le : (e : Extra) → size e ≤ 1
 size-le none = omega arith
 size-le (extra t) = omega arith
 
+-- And one if it is not none.
 pub size-some : (e : ℕ) → e ≢ 0 → 1 ≡ size (extra-at e)
 size-some zero d = absurd (d refl)
 size-some (suc t) d = refl
@@ -51,9 +55,11 @@ size-some (suc t) d = refl
 -- ## Marks
 
 module _ (first e : ℕ) (marks : List ℕ) where
+  -- No extra, no mark.
   pub more-none : e ≤ 0 → OneMore first e marks marks
   more-none z = record { size = refl; here = λ t h. absurd (omega arith); there = λ g h. refl }
 
+  -- The mark of an extra.
   pub more-some : 0 < e → first + e ≤ length marks → OneMore first e marks (set marks (first + (e - 1)) 1)
   more-some l room = record {
     size = length-set marks (first + (e - 1)) 1;
@@ -75,6 +81,7 @@ module _ (first e : ℕ) (marks r : List ℕ) (more : OneMore first e marks r) w
       (λ h. rw (is-track e t h, or-true (eqb (getD marks (first + t) 0) 1)) (eq-eqb _ 1 (more .here t h)))
       (λ d. rw (is-other e t d, or-false (eqb (getD marks (first + t) 0) 1)) (ap (λ (v : ℕ). eqb v 1) (more .there (first + t) (λ u h. omega arith))))
 
+-- A mark more in each set is the flags with the choice.
 pub widened : (sh : Shape) (a b first : ℕ) (marks mid r : List ℕ) → first ≡ tracks sh A → a ≤ tracks sh A → OneMore 0 a marks mid → OneMore first b mid r →
     Widened sh marks (choice-at a b) r
 widened sh a b first marks mid r e l p q = record { size = q .size ∙ p .size; flags = flags }
@@ -88,12 +95,15 @@ widened sh a b first marks mid r e l p q = record { size = q .size ∙ p .size; 
 
 -- A free extra is unflagged, where `first` is the first track of its set.
 module _ (sh : Shape) (s : TrackSet) (first e : ℕ) (marks : List ℕ) (r : Bool) (number : (t : ℕ) → first + t ≡ track-number sh s t) (free : Free first e marks r) where
+  -- Free says unflagged.
   pub free-unflagged : r ≡ true → (t : ℕ) → e ≡ suc t → marked sh marks s t ≡ false
   free-unflagged h t i = ne-eqb _ 1 (rw (number t) at (free .yes-free h t i))
 
+  -- And not free says flagged.
   pub unflagged-free : r ≡ false → ((t : ℕ) → e ≡ suc t → marked sh marks s t ≡ false) → ⊥
   unflagged-free h u = free .not-free h (λ t i. rw (number t) (eqb-false _ 1 (u t i)))
 
+-- A choice that is not allowed.
 pub refuses : (sh : Shape) (code : ℕ) (f : TrackFlags) (e : Choice) → (Allowed sh code f e → ⊥) → Allows sh code f e false
 refuses sh code f e d = record { yes-allowed = λ h. absurd (true≢false (sym h)); not-allowed = λ h. d }
 
@@ -113,11 +123,13 @@ number-at : Extra → ℕ
 number-at none = 0
 number-at (extra t) = suc t
 
+-- They are its numbers.
 number-is : (x : Extra) → x ≡ extra-at (number-at x)
 unfolding number-at
 number-is none = refl
 number-is (extra t) = refl
 
+-- They are within the set.
 number-le : (n : ℕ) (x : Extra) → ((t : ℕ) → x ≡ extra t → t < n) → number-at x ≤ n
 unfolding number-at
 number-le n none h = omega arith

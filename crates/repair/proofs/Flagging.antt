@@ -30,26 +30,32 @@ pub marks-same : (z : Sizes) (flags : ℕ) (marks : List ℕ) → Small z → Ma
 marks-same z flags marks small m s t l = ap (λ (v : ℕ). eqb v 1) (m .marks-at _ (omega (arith, number-lt (shape z) s t l)))
 
 module _ (sh : Shape) (f g : TrackFlags) (same : SameFlags sh f g) where
+  -- They have the same counts.
   count-same : (s : TrackSet) → flag-count sh f s ≡ flag-count sh g s
   unfolding flag-count
   count-same s = sum-same (tracks sh s) _ _ (λ t l. ap bit (same s t l))
 
+  -- The same code.
   pub code-same : flags-code sh f ≡ flags-code sh g
   unfolding flags-code
   code-same = ap₂ reach-code (count-same A) (count-same B)
 
+  -- The same limit.
   pub within-same : sh .closing ≡ closed-tail → Within sh f → Within sh g
   within-same c w = closed-within sh g c
       (omega (arith, count-same A, w .in-set A))
       (omega (arith, count-same B, w .in-set B))
       (omega (arith, count-same A, count-same B, w .in-all))
 
+  -- The same records agree off them.
   pub agree-same : (x y : Cells) → AgreeOff sh (whole f) x y → AgreeOff sh (whole g) x y
   agree-same x y a = record { cell = λ s t m l b e. a .cell s t m l b (same s t l ∙ e) }
 
+  -- They say the same with extras.
   pub extras-same : (e : Choice) → SameFlags sh (with-extras f e) (with-extras g e)
   extras-same e s t l = ap (λ (b : Bool). b || is (e s) t) (same s t l)
 
+  -- The same choices are allowed.
   pub allowed-same : (code : ℕ) (e : Choice) → Allowed sh code f e → Allowed sh code g e
   allowed-same code e a = record {
     in-set = a .in-set;
@@ -58,6 +64,7 @@ module _ (sh : Shape) (f g : TrackFlags) (same : SameFlags sh f g) where
     unflagged = λ s t h. sym (same s t (a .track s t h)) ∙ a .unflagged s t h;
   }
 
+-- The same records are in reach.
 pub reach-same : (sh : Shape) (f g : TrackFlags) → SameFlags sh f g → (code : ℕ) (x y : Cells) → InReach sh code f x y → InReach sh code g x y
 reach-same sh f g same code x y r = record {
   choice = r .choice;
@@ -79,9 +86,11 @@ allowed-within sh f e c n a =
     (omega (arith, count-extras sh f e A, count-extras sh f e B, a .in-all))
 
 module _ (sh : Shape) (f : TrackFlags) where
+  -- A number that is not below.
   not-below : (a n : ℕ) → (a < n → ⊥) → n ≤ a
   not-below a n h = by-cases (decLe n a) (λ l. l) (λ d. absurd (h (omega arith)))
 
+  -- One flagged track leaves low and high none.
   single : (s : TrackSet) (p : Plan) → Fills sh f s p → flag-count sh f s ≤ 1 → Single sh s p
   single s p n h = record {
     no-low = not-below _ _ (λ l. omega (arith, n .two l));

@@ -20,6 +20,7 @@ module _ (l : ℕ) (image out : List ℕ) (first : ℕ) where
   pub extra-has : (e : ℕ) → e ≢ 0 → HasExtra l first e image out → HasTrack l (first + (e - 1)) image out
   extra-has e d h = h .has (e - 1) (omega arith)
 
+  -- None is not named.
   pub named-none : (e : ℕ) → e ≡ 0 → named-at l image out first e ≡ none
   unfolding named-at
   named-none e z = rw z
@@ -33,9 +34,11 @@ module _ (l : ℕ) (image out : List ℕ) (first : ℕ) where
       let e : suc t - 1 ≡ t = omega arith in
       rw e (ap (λ (c : Bool). pick c none (extra (first + t))) (rw e at h))
 
+  -- Nor is a track without a changed cell.
   pub named-same : (e : ℕ) → e ≢ 0 → changed-at l image out (first + (e - 1)) ≡ 0 → named-at l image out first e ≡ none
   named-same e d h = named-by e d _ (eq-eqb _ 0 h)
 
+  -- A track with one is.
   pub named-changed : (e : ℕ) → e ≢ 0 → changed-at l image out (first + (e - 1)) ≢ 0 → named-at l image out first e ≡ extra (first + (e - 1))
   named-changed e d h = named-by e d _ (ne-eqb _ 0 h)
 

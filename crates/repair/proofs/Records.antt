@@ -85,9 +85,11 @@ module _ (z : Sizes) (flags : ℕ) (image out : List ℕ) (given : Given z flags
   abbrev word : TrackFlags
   word = word-flags (shape z) flags
 
+  -- The output after it is copied.
   pub given-copy : (after : List ℕ) → Copied image out after → after ≡ image
   given-copy after c = copied-all image out after c (given .image-is .size ∙ sym (given .out-has))
 
+  -- The image with its syndromes.
   pub given-kept : (syn : List ℕ) → Holds sh (cells sh image) syn → Kept z image syn
   given-kept syn h = record { small = given .small; image = given .image-is; holds = h }
 
@@ -95,12 +97,14 @@ module _ (z : Sizes) (flags : ℕ) (image out : List ℕ) (given : Given z flags
     abbrev f : TrackFlags
     f = marked (shape z) marks
 
+    -- The marks are the flags.
     same : SameFlags sh f word
     same = marks-same z flags marks (given .small) m
 
     back : SameFlags sh word f
     back s t l = sym (same s t l)
 
+    -- The marks can be worked with.
     pub given-workable : (copy syn : List ℕ) → copy ≡ image → Holds sh (cells sh image) syn → Workable z marks image copy syn
     given-workable copy syn e h = record {
       kept = given-kept syn h;
@@ -110,6 +114,7 @@ module _ (z : Sizes) (flags : ℕ) (image out : List ℕ) (given : Given z flags
     }
 
     module _ (after : List ℕ) (r : Bool) (w : Worked sh f image after r) where
+      -- Only marked tracks were changed.
       pub worked-only : r ≡ true → OnlyMarked z marks image after
       worked-only h = record {
         small = given .small;
@@ -119,6 +124,7 @@ module _ (z : Sizes) (flags : ℕ) (image out : List ℕ) (given : Given z flags
         agree = w .agree h;
       }
 
+      -- Answer 0.
       pub repair-found : r ≡ true → (answer : Result) → answer ≡ mended-at sh image after 0 0 →
           Mended sh (RepairNear sh flags image) (λ _ _. none) image out answer after
       unfolding named-at
@@ -129,6 +135,7 @@ module _ (z : Sizes) (flags : ℕ) (image out : List ℕ) (given : Given z flags
         result = e;
       })
 
+      -- Answer 7.
       pub repair-none : r ≡ false → (answer : Result) → answer ≡ plain 7 0 → Mended sh (RepairNear sh flags image) (λ _ _. none) image out answer after
       repair-none h answer e = inr (record {
         no-record = λ y g n. w .no-record h y g (agree-same sh word f back _ _ n);
@@ -140,6 +147,7 @@ module _ (z : Sizes) (flags : ℕ) (image out : List ℕ) (given : Given z flags
     -- ## Tracing
 
     module _ (code : ℕ) (code-is : code ≡ flags-code sh word) where
+      -- The tracer can work with them.
       pub given-traceable : (first : List ℕ) → Holds sh (cells sh image) first → Traceable z code marks image first
       given-traceable first h = record {
         kept = given-kept first h;
@@ -149,6 +157,7 @@ module _ (z : Sizes) (flags : ℕ) (image out : List ℕ) (given : Given z flags
       }
 
       module _ (after : List ℕ) (r : Hit) (w : Searched z code f image after r) where
+        -- The choice fits by the flag word too.
         fits : r .found ≡ true → Fits sh code word image (choice-at (r .a) (r .b)) (cells sh after)
         fits h = let n = w .fits h in record {
           good = n .good;
@@ -156,6 +165,7 @@ module _ (z : Sizes) (flags : ℕ) (image out : List ℕ) (given : Given z flags
           agree = agree-same sh _ _ (extras-same sh f word same (choice-at (r .a) (r .b))) _ _ (n .agree);
         }
 
+        -- Only flagged tracks and extras were changed.
         pub searched-only : r .found ≡ true → (wide : List ℕ) → Widened sh marks (choice-at (r .a) (r .b)) wide → OnlyMarked z wide image after
         searched-only h wide e = record {
           small = given .small;
@@ -165,6 +175,7 @@ module _ (z : Sizes) (flags : ℕ) (image out : List ℕ) (given : Given z flags
           agree = agree-same sh _ _ (λ s t l. sym (e .flags s t l)) _ _ (w .fits h .agree);
         }
 
+        -- Answer 0.
         pub trace-found : r .found ≡ true → (answer : Result) → answer ≡ mended-at sh image after (r .a) (r .b) →
             Mended sh (TraceNear sh flags image) (trace-named sh flags image) image out answer after
         trace-found h answer e = inl (record {
@@ -178,6 +189,7 @@ module _ (z : Sizes) (flags : ℕ) (image out : List ℕ) (given : Given z flags
           result = e ∙ (λ i. mended sh (cells sh image) (cells sh after) (λ s. fits-names z code word image after (r .a) (r .b) (w .is-choice h) (fits h) s i));
         })
 
+        -- Answer 7.
         pub trace-none : r .found ≡ false → (answer : Result) → answer ≡ plain 7 0 →
             Mended sh (TraceNear sh flags image) (trace-named sh flags image) image out answer after
         trace-none h answer e = inr (record {

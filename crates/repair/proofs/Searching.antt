@@ -27,6 +27,7 @@ pub record Seeking (z : Sizes) (code : ℕ) (marks image first : List ℕ) (a b 
   pub row : (l : ℕ) → l < b → NoFit z code marks image a l
 
 module _ (z : Sizes) (code : ℕ) (marks image first : List ℕ) where
+  -- At the start none has been tried.
   pub seeking-none : (out syn : List ℕ) → out ≡ image → length syn ≡ length first → Seeking z code marks image first 0 0 out syn
   seeking-none out syn p q = record { copy = p; room = q; rows = λ k h. absurd (omega arith); row = λ l h. absurd (omega arith) }
 

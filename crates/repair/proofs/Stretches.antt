@@ -79,6 +79,7 @@ module _ (sh : Shape) (image out : List ℕ) where
   abbrev at-number : ℕ → ℕ
   at-number = changed-at (track-length sh) image out
 
+  -- The changed cells of a track are those of its number.
   pub changed-number : (s : TrackSet) (t : ℕ) → changed-in sh (cells sh image) (cells sh out) s t ≡ at-number (track-number sh s t)
   unfolding changed-in changed-at
   changed-number s t = refl
@@ -91,10 +92,12 @@ module _ (sh : Shape) (image out : List ℕ) where
   over-numbers : (f : ℕ → ℕ) → over-tracks sh (λ s t. f (track-number sh s t)) ≡ sum (all-tracks sh) f
   over-numbers f = sym (sum-append (tracks sh A) (tracks sh B) f)
 
+  -- The changed cells, as a sum over the track numbers.
   pub cells-sum : changed-cells sh (cells sh image) (cells sh out) ≡ sum (all-tracks sh) at-number
   unfolding changed-cells changed-in changed-at
   cells-sum = over-numbers at-number
 
+  -- The changed mask, as one.
   pub mask-sum : changed-mask sh (cells sh image) (cells sh out) ≡ sum (all-tracks sh) (λ g. mask-bit g (at-number g))
   unfolding changed-mask changed-in changed-at
   mask-sum = over-numbers (λ g. mask-bit g (at-number g))
@@ -150,6 +153,7 @@ module _ (l n : ℕ) (marks image out : List ℕ) (g : ℕ) (w : Restoring l n m
       same m k = m < l → getD after (k * l + m) 0 ≡ getD image (k * l + m) 0
 
 module _ (z : Sizes) (marks image out : List ℕ) (only : OnlyMarked z marks image out) (n : ℕ) (e : n ≡ all-tracks (shape z)) where
+  -- At the start those without a mark are.
   pub restoring-none : Restoring (l z marks image out only) n marks image out 0
   restoring-none = record {
     size = only .out-has ∙ sym (only .image-has);

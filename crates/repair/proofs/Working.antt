@@ -27,6 +27,7 @@ copied-all source before after c e = ext-getD 0 after source (c .size ∙ sym e)
 
 -- ## A plan's solution
 
+-- The copy has the image's syndromes.
 pub workable-kept : (z : Sizes) (marks image out syn : List ℕ) → Workable z marks image out syn → Kept z out syn
 workable-kept z marks image out syn given = subst (λ (xs : List ℕ). Kept z xs syn) (sym (given .copy)) (given .kept)
 
@@ -38,10 +39,12 @@ module _ (z : Sizes) (marks image out syn : List ℕ) (given : Workable z marks 
   f = marked (shape z) marks
 
   module _ (pa : Planned sh f A a) (pb : Planned sh f B b) (after syn′ : List ℕ) (r : Bool) (solved : Solved z a b out after syn′ r) where
+    -- Only flagged tracks were changed.
     changed : AgreeOff sh (whole f) (cells sh image) (cells sh after)
     changed = subst (λ (xs : List ℕ). AgreeOff sh (whole f) (cells sh xs) (cells sh after)) (given .copy)
         (frame-agree sh f a b _ _ (in-each (λ s. Planned sh f s (plan-of a b s)) pa pb) (solved .frame))
 
+    -- So the output differs from the image in marked tracks alone.
     pub solved-only : OnlyMarked z marks image after
     solved-only = record {
       small = given .kept .small;
@@ -51,6 +54,7 @@ module _ (z : Sizes) (marks image out syn : List ℕ) (given : Workable z marks 
       agree = changed;
     }
 
+    -- The solver found a good record.
     pub worked-good : r ≡ true → Worked sh f image after true
     worked-good h = record {
       size = solved .kept .image .size;
@@ -60,6 +64,7 @@ module _ (z : Sizes) (marks image out syn : List ℕ) (given : Workable z marks 
       back = λ e. absurd (true≢false e);
     }
 
+    -- It found none, and the output is put back.
     pub worked-none : r ≡ false → Fills sh f A a → Fills sh f B b → (last : List ℕ) → last ≡ image → Worked sh f image last false
     worked-none h fa fb last e = record {
       size = ap length e ∙ given .kept .image .size;
@@ -76,6 +81,7 @@ module _ (z : Sizes) (code : ℕ) (marks image first : List ℕ) (given : Tracea
   abbrev own : TrackFlags
   own = marked (shape z) marks
 
+  -- Codes are 0 to 5.
   pub code-le : code ≤ 5
   unfolding flags-code
   code-le = rw (given .code-is) (code-small _ _)
@@ -84,6 +90,7 @@ module _ (z : Sizes) (code : ℕ) (marks image first : List ℕ) (given : Tracea
     abbrev wider : TrackFlags
     wider = marked (shape z) wide
 
+    -- The marks are the flags with the choice.
     back : SameFlags (shape z) (with-extras own e) wider
     back s t l = sym (widened .flags s t l)
 
@@ -97,6 +104,7 @@ module _ (z : Sizes) (code : ℕ) (marks image first : List ℕ) (given : Tracea
           (allowed-within (shape z) own e refl (λ h. given .coded (given .code-is ∙ h)) (subst (λ (k : ℕ). Allowed (shape z) k own e) (given .code-is) a));
     }
 
+    -- What comes of the marks is what comes of the choice.
     pub choice-tried : Allowed (shape z) code own e → (after : List ℕ) (r : Bool) → Worked (shape z) wider image after r → Tried (shape z) code own image e after r
     choice-tried a after r w = record {
       size = w .size;
