@@ -2,7 +2,7 @@
 use code::Answer;
 use code::Extra;
 ghost use mathlib.Core.Path.{_≡_};
-ghost use Rattle.code.specs.Calls.{Encoded, WasRead, Repaired, Traced};
+ghost use Rattle.code.specs.Contracts.{Encoded, WasRead, Repaired, Traced};
 ghost use Rattle.code.specs.Answers.{extra-of, result-of};
 ghost use Rattle.code.proofs.Extras.{Numbered, ExtrasNumbered};
 ghost use Rattle.axp_c.specs.Result.{c-extra, c-result};
@@ -23,7 +23,7 @@ pub struct AxpResult {
 
 // The number of an extra.
 fn extra_number(e: Extra) -> u32
-    requires { ⌜ Numbered (extra-of e) ⌝ }
+    requires { ⌜ Numbered 18 (extra-of e) ⌝ }
     ensures { λ r. ⌜ c-extra r ≡ extra-of e ⌝ }
 {
     match e {
@@ -34,7 +34,7 @@ fn extra_number(e: Extra) -> u32
 
 // An answer as C has it.
 fn for_c(r: Answer) -> AxpResult
-    requires { ⌜ ExtrasNumbered (result-of r) ⌝ }
+    requires { ⌜ ExtrasNumbered 18 (result-of r) ⌝ }
     ensures { λ q. ⌜ c-result q ≡ result-of r ⌝ }
 {
     let a = r.a;

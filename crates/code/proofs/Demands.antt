@@ -1,133 +1,106 @@
--- Point 3 (docs/ASSURANCE.md), in its words, of every answer and output that are right for repair or tracing.
-use mathlib.Core.Path.{_≡_, refl, ap}
-use mathlib.Core.Logic.{_⊎_, inl, inr, _≢_}
-use mathlib.Core.List.{List, [], _∷_}
-use Prim.Native.Nat.{ℕ, _≤_}
+-- Point 3, for any shape and any records that count as near: of a call whose last check gives 6 and which met none of the checks before.
+use mathlib.Core.Path.{_≡_, sym, ap, _∙_}
+use mathlib.Core.Logic.{_⊎_, inl, inr, _≢_, _↔_}
+use mathlib.Core.Bool.{true}
+use mathlib.Core.List.{List, [], _∷_, _++_}
+use Prim.Native.Nat.{ℕ, _<_}
 use native.Mathlib.Omega.{arith}
-use Rattle.code.specs.Record.{TrackSet, Shape, base, Cells, Good, Same}
-use Rattle.code.specs.Image.{image-size, cells}
-use Rattle.code.specs.Flags.{word-flags, Within}
-use Rattle.code.specs.Reach.{Extra, none, flags-code, Ambiguous}
-use Rattle.code.specs.Numbers.{
-  Check,
-  count-check,
-  length-check,
-  room-check,
-  cell-check,
-  flag-check,
-  reach-check,
-  Decides,
-  First,
-}
-use Rattle.code.specs.Calls.{
-  Result,
-  Refused,
-  Mended,
-  repair-checks,
-  RepairNear,
-  Repaired,
-  TraceNear,
-  trace-named,
-  Traced,
-}
-use Rattle.code.proofs.Codes.{code-past}
-use Rattle.code.proofs.Numbers.{Through, unrefused, passed-code}
-use Rattle.code.proofs.Reached.{repaired-unique, reached-unique}
-use Rattle.code.proofs.TooMany.{four-blocks}
+use lib.ListN.{getD}
+use Rattle.code.specs.Record.{TrackSet, Shape, tracks, Cells, Good, Same}
+use Rattle.code.specs.Image.{cells}
+use Rattle.code.specs.Flags.{word-flags}
+use Rattle.code.specs.Reach.{Extra, AtMostOne}
+use Rattle.code.specs.Numbers.{Check, Decides}
+use Rattle.code.specs.Calls.{Result, Refused, Answered, changed-cells, Mended}
+use Rattle.code.specs.Supply.{Differ, Point3}
+use Rattle.code.proofs.Answering.{mended-answer}
+use Rattle.code.proofs.Linear.{same-sym}
+use Rattle.code.proofs.Masks.{mask-differ}
+use Rattle.code.proofs.Numbers.{first-append, Avoids, unrefused}
+use Rattle.code.proofs.Places.{cell-lt}
 
--- ## One record, or none
+abbrev answer-of : Result → ℕ
+answer-of r = r .answer
 
--- What a call that met none of numbers 1 to 6 answers, whichever records count as near.
+not-6 : (k : ℕ) → (k ≡ 0) ⊎ (k ≡ 7) → k ≢ 6
+not-6 k (inl z) e = omega arith
+not-6 k (inr z) e = omega arith
+
+-- ## Past the checks
+
 module _ (sh : Shape) (near : Cells → Type 0) (named : List ℕ → TrackSet → Extra) (image before : List ℕ) (r : Result) (after : List ℕ) where
-  -- It says 0, and the output holds a good record that is near; or it says 7, and there is none.
-  pub answers : Mended sh near named image before r after → (r .answer ≡ 0) ⊎ (r .answer ≡ 7)
-  answers (inl a) = inl (ap (λ (q : Result). q .answer) (a .result))
-  answers (inr a) = inr (ap (λ (q : Result). q .answer) (a .result))
-
-  -- 7 is said exactly where there is none.
-  pub says-7 : Mended sh near named image before r after →
-      (r .answer ≡ 7 → (y : Cells) → Good sh y → near y → ⊥) × (((y : Cells) → Good sh y → near y → ⊥) → r .answer ≡ 7)
+  -- 7 is said exactly where there is no record.
+  says-7 : Mended sh near named image before r after → (r .answer ≡ 7) ↔ ((y : Cells) → Good sh y → near y → ⊥)
   says-7 (inl a) = (
-    λ e. absurd (omega (arith, ap (λ (q : Result). q .answer) (a .result))),
+    λ e. absurd (omega (arith, ap answer-of (a .result))),
     λ nothing. absurd (nothing _ (a .good) (a .reached)),
   )
-  says-7 (inr a) = (λ e. a .no-record, λ nothing. ap (λ (q : Result). q .answer) (a .result))
+  says-7 (inr a) = (λ e. a .no-record, λ nothing. ap answer-of (a .result))
 
   -- 0 is said where there is one, and it is the output.
-  pub says-0 : ((x y : Cells) → Good sh x → Good sh y → near x → near y → Same sh x y) → Mended sh near named image before r after →
+  says-0 : AtMostOne sh near → Mended sh near named image before r after →
       (y : Cells) → Good sh y → near y → (r .answer ≡ 0) × Same sh y (cells sh after)
-  says-0 one (inl a) y g n = (ap (λ (q : Result). q .answer) (a .result), one y _ g (a .good) n (a .reached))
+  says-0 one (inl a) y g n = (ap answer-of (a .result), one y _ g (a .good) n (a .reached))
   says-0 one (inr a) y g n = absurd (a .no-record y g n)
 
--- ## Too many
+  -- Of an answer 0.
+  held : Mended sh near named image before r after → r .answer ≡ 0 → Good sh (cells sh after) × near (cells sh after)
+  held (inl a) z = (a .good, a .reached)
+  held (inr a) z = absurd (omega (arith, ap answer-of (a .result)))
 
--- A call that met none of numbers 1 to 5 says 6 exactly when the flags' code is 0.
-module _ (n flags : ℕ) (image before : List ℕ) (r : Result) (after : List ℕ)
-    (u : (r .answer ≢ 1) × (r .answer ≢ 2) × (r .answer ≢ 3) × (r .answer ≢ 4) × (r .answer ≢ 5))
-    (near : Cells → Type 0) (named : List ℕ → TrackSet → Extra)
-    (c : First (repair-checks n flags image before) (Refused r before after) (Mended (base n) near named image before r after)) where
-  five-checks : List {1} Check
-  five-checks = count-check n ∷ length-check (image-size (base n)) image ∷ room-check (image-size (base n)) before ∷ cell-check image ∷ flag-check (base n) flags ∷ []
+  mask-of : Mended sh near named image before r after → r .answer ≡ 0 →
+      (s : TrackSet) (t : ℕ) → t < tracks sh s → (word-flags sh (r .mask) s t ≡ true) ↔ Differ sh (cells sh image) (cells sh after) s t
+  mask-of (inl a) z = rw (a .result) (mask-differ sh (cells sh image) (cells sh after))
+  mask-of (inr a) z = absurd (omega (arith, ap answer-of (a .result)))
 
-  pub says-6 : (r .answer ≡ 6 → flags-code (base n) (word-flags (base n) flags) ≡ 0) × (flags-code (base n) (word-flags (base n) flags) ≡ 0 → r .answer ≡ 6)
-  unfolding five-checks
-  says-6 = go (unrefused five-checks r before after _ (r .answer) (omega arith) c refl .done)
+  number-of : Mended sh near named image before r after → r .answer ≡ 0 → r .changed ≡ changed-cells sh (cells sh image) (cells sh after)
+  number-of (inl a) z = ap (λ (q : Result). q .changed) (a .result)
+  number-of (inr a) z = absurd (omega (arith, ap answer-of (a .result)))
+
+  -- The output is near, since a copy of the image is.
+  stays-near : ((y : Cells) → Same sh (cells sh image) y → near y) → Mended sh near named image before r after → near (cells sh after)
+  stays-near copy (inl a) = a .reached
+  stays-near copy (inr a) = copy _ (record { cell = λ s t m l b. sym (a .copy _ (cell-lt sh s t m l b)) })
+
+-- ## Point 3
+
+module _ (sh : Shape) (near : Cells → Type 0) (named : List ℕ → TrackSet → Extra) (cs : List {1} Check) (six : Check) (is-6 : six .number ≡ 6)
+    (image before : List ℕ) (r : Result) (after : List ℕ) (met-none : Avoids (r .answer) cs)
+    (call : Answered (cs ++ (six ∷ [])) (Mended sh near named image before) before r after) where
+  abbrev Done : Type 0
+  Done = Mended sh near named image before r after
+
+  -- 6 is said where the last check applies, and only there.
+  last : Decides (six .applies) (Refused r before after six) Done
+  last = unrefused cs r before after _ met-none (first-append cs (six ∷ []) (Refused r before after) Done call) .done
+
+  done : r .answer ≢ 6 → Done
+  done = go last
     where
-      go : Decides (flags-code (base n) (word-flags (base n) flags) ≡ 0) (Refused r before after (reach-check (base n) flags)) (Mended (base n) near named image before r after) →
-          (r .answer ≡ 6 → flags-code (base n) (word-flags (base n) flags) ≡ 0) × (flags-code (base n) (word-flags (base n) flags) ≡ 0 → r .answer ≡ 6)
-      go (inl a) = (λ e. a .0, λ e. ap (λ (q : Result). q .answer) (a .1 .result))
-      go (inr a) = (λ e. absurd (not-6 (answers (base n) near named image before r after (a .1)) e), λ e. absurd (a .0 e))
-        where
-          not-6 : (r .answer ≡ 0) ⊎ (r .answer ≡ 7) → r .answer ≡ 6 → ⊥
-          not-6 (inl z) e = omega arith
-          not-6 (inr z) e = omega arith
+      go : Decides (six .applies) (Refused r before after six) Done → r .answer ≢ 6 → Done
+      go (inl a) d = absurd (d (ap answer-of (a .1 .result) ∙ is-6))
+      go (inr a) d = a .1
 
-  -- From four blocks up, exactly when two different good records agree on all unflagged tracks.
-  pub too-many : 4 ≤ n → (r .answer ≡ 6 → Ambiguous (base n) (word-flags (base n) flags)) × (Ambiguous (base n) (word-flags (base n) flags) → r .answer ≡ 6)
-  too-many l =
-      let both = four-blocks n (word-flags (base n) flags) l in
-      (λ e. both .1 (says-6 .0 e), λ a. says-6 .1 (both .0 a))
+  pub says-6 : (r .answer ≡ 6) ↔ six .applies
+  says-6 = go last
+    where
+      go : Decides (six .applies) (Refused r before after six) Done → (r .answer ≡ 6) ↔ six .applies
+      go (inl a) = (λ e. a .0, λ e. ap answer-of (a .1 .result) ∙ is-6)
+      go (inr a) = (λ e. absurd (not-6 _ (mended-answer sh before r after near named image (a .1)) e), λ e. absurd (a .0 e))
 
-  -- Flags within the limit are not too many.
-  pub within-not-6 : Within (base n) (word-flags (base n) flags) → r .answer ≢ 6
-  within-not-6 w e = code-past (base n) (word-flags (base n) flags) (says-6 .0 e) w
-
--- ## In the words of point 3
-
--- What is demanded of a call: the output holds the one good record near the image and there is no other; where there is
--- none, and only then, it says 7.
-pub record Demanded (n : ℕ) (near : Cells → Type 0) (r : Result) (after : List ℕ) : Type 0 where
-  pub the-one : (y : Cells) → Good (base n) y → near y → (r .answer ≡ 0) × Same (base n) y (cells (base n) after)
-  pub held : r .answer ≡ 0 → Good (base n) (cells (base n) after) × near (cells (base n) after)
-  pub if-7 : r .answer ≡ 7 → (y : Cells) → Good (base n) y → near y → ⊥
-  pub then-7 : ((y : Cells) → Good (base n) y → near y → ⊥) → r .answer ≡ 7
-
-module _ (n flags : ℕ) (image before : List ℕ) (r : Result) (after : List ℕ)
-    (u : (r .answer ≢ 1) × (r .answer ≢ 2) × (r .answer ≢ 3) × (r .answer ≢ 4) × (r .answer ≢ 5))
-    (w : Within (base n) (word-flags (base n) flags)) where
-  -- Whichever records count as near, if at most one good record does.
-  demanded : (near : Cells → Type 0) (named : List ℕ → TrackSet → Extra) →
-      ((flags-code (base n) (word-flags (base n) flags) ≡ 0 → ⊥) → (x y : Cells) → Good (base n) x → Good (base n) y → near x → near y → Same (base n) x y) →
-      First (repair-checks n flags image before) (Refused r before after) (Mended (base n) near named image before r after) → Demanded n near r after
-  demanded near named one c = record {
-    the-one = says-0 (base n) near named image before r after (one (passed-code n flags image before (t .passed))) (t .done);
-    held = held (t .done);
-    if-7 = says-7 (base n) near named image before r after (t .done) .0;
-    then-7 = says-7 (base n) near named image before r after (t .done) .1;
+  -- Where the limit keeps the last check from applying and leaves at most one good record near, and a copy of the image is near.
+  pub demanded : (limit long doubt : Type 0) → (limit → ¬ six .applies) → (limit → AtMostOne sh near) → (long → six .applies ↔ doubt) →
+      ((y : Cells) → Same sh (cells sh image) y → near y) → Point3 sh near limit long doubt image r after
+  demanded limit long doubt few one many copy = record {
+    found = λ l. says-0 sh near named image before r after (one l) (done (within l));
+    held = λ z. held sh near named image before r after (done (λ e. omega arith)) z;
+    no-other = one;
+    said-7 = λ l. says-7 sh near named image before r after (done (within l));
+    only-there = λ e. stays-near sh near named image before r after copy (done (not-6 _ e));
+    mask = λ z. mask-of sh near named image before r after (done (λ e. omega arith)) z;
+    number = λ z. number-of sh near named image before r after (done (λ e. omega arith)) z;
+    said-6 = λ l. (λ e. many l .0 (says-6 .0 e), λ d. says-6 .1 (many l .1 d));
   }
     where
-      t : Through (repair-checks n flags image before) (Mended (base n) near named image before r after)
-      t = let v = within-not-6 n flags image before r after u near named c w in
-          unrefused (repair-checks n flags image before) r before after _ (r .answer) (omega arith) c refl
-
-      held : Mended (base n) near named image before r after → r .answer ≡ 0 → Good (base n) (cells (base n) after) × near (cells (base n) after)
-      held (inl a) e = (a .good, a .reached)
-      held (inr a) e = absurd (omega (arith, ap (λ (q : Result). q .answer) (a .result)))
-
-  pub repair-demand : Repaired n flags image before r after → Demanded n (RepairNear (base n) flags image) r after
-  repair-demand = demanded (RepairNear (base n) flags image) (λ _ _. none) (λ h x y.
-      repaired-unique (base n) (word-flags (base n) flags) (cells (base n) image) x y w)
-
-  pub trace-demand : Traced n flags image before r after → Demanded n (TraceNear (base n) flags image) r after
-  trace-demand = demanded (TraceNear (base n) flags image) (trace-named (base n) flags image) (λ h x y.
-      reached-unique (base n) (word-flags (base n) flags) (cells (base n) image) x y refl h)
+      within : limit → r .answer ≢ 6
+      within l e = few l (says-6 .0 e)

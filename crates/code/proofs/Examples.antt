@@ -32,9 +32,12 @@ use Rattle.code.proofs.Tests.{every, every-at, both-sets, both-at, good
 abbrev flags-of : ℕ → TrackFlags
 flags-of word = word-flags (base 1) word
 
+abbrev checks-of : ℕ → List ℕ → List ℕ → List {1} Check
+checks-of word image before = repair-checks (base 1) 1 word (flags-of word) image before
+
 -- The checks are passed.
 passed : (flags : ℕ) (ins before : List ℕ) → T (ltb flags (2 ^ 18)) → T (ltb 0 (flags-code (base 1) (flags-of flags))) → 414 ≤ length before →
-    Passed (repair-checks 1 flags (ones ins) before)
+    Passed (checks-of flags (ones ins) before)
 passed flags ins before few code h = (
   λ d. ⊎-elim (λ e. omega arith) (λ e. omega arith) d,
   (
@@ -96,7 +99,7 @@ found near named named′ ins outs before r h g n i e = record {
 repair-found : (flags : ℕ) (ins outs : List ℕ) (r : Result) → T (ltb flags (2 ^ 18)) → T (ltb 0 (flags-code (base 1) (flags-of flags))) →
     Good (base 1) (spots outs) → T (agree-test (flags-of flags) (spots ins) (spots outs)) →
     mended (base 1) (spots ins) (spots outs) (λ s. none) ≡ r → Holds (repair flags ins r outs)
-repair-found flags ins outs r few code g agree e before h = first-passed (repair-checks 1 flags (ones ins) before) (Refused r before (output outs before)) _ (passed flags ins before few code h)
+repair-found flags ins outs r few code g agree e before h = first-passed (checks-of flags (ones ins) before) (Refused r before (output outs before)) _ (passed flags ins before few code h)
     (inl (found (AgreeOff (base 1) (whole (flags-of flags)) (cells (base 1) (ones ins))) (λ s. none) (λ s. none) ins outs before r h g (tested-agree (flags-of flags) ins outs before agree) (λ s. refl) e))
 
 -- A choice of one extra track, in A.
@@ -137,7 +140,7 @@ trace-found : (flags u : ℕ) (ins outs : List ℕ) (r : Result) → T (ltb flag
     T (agree-test (with-extras (flags-of flags) (in-a u)) (spots ins) (spots outs)) →
     mended (base 1) (spots ins) (spots outs) (λ s. changed-extra (base 1) (flags-of flags) (spots ins) (spots outs) s (tracks (base 1) s)) ≡ r →
     Holds (trace flags ins r outs)
-trace-found flags u ins outs r few code allowed g agree e before h = first-passed (repair-checks 1 flags (ones ins) before) (Refused r before (output outs before)) _ (passed flags ins before few code h)
+trace-found flags u ins outs r few code allowed g agree e before h = first-passed (checks-of flags (ones ins) before) (Refused r before (output outs before)) _ (passed flags ins before few code h)
     (inl (found (InReach (base 1) (flags-code (base 1) (flags-of flags)) (flags-of flags) (cells (base 1) (ones ins))) _ (λ s. changed-extra (base 1) (flags-of flags) (spots ins) (spots outs) s (tracks (base 1) s)) ins outs before r h g
     (record { choice = in-a u; allowed = tested-allowed _ u (flags-of flags) allowed; agree = tested-agree _ ins outs before agree })
     (λ s. changed-extra-same (base 1) (spots ins) _ (spots outs) _ (same-sym (image-cells ins)) (same-sym (ones-cells outs (drop 414 before)))
@@ -161,7 +164,7 @@ no-flags s t = rw (zero-div (2 ^ track-number (base 1) s t))
 repair-none : (ins : List ℕ) (m : ℕ) → T (ltb m 23) → T (eqb (vertical (base 1) (spots ins) A m % 2) 1) → Holds (repair 0 ins (plain 7 0) ins)
 unfolding flags-code flag-count sum reach-code look-up
 repair-none ins m l odd before h =
-    first-passed (repair-checks 1 0 (ones ins) before) (Refused (plain 7 0) before (output ins before)) _ (passed 0 ins before tt tt h)
+    first-passed (checks-of 0 (ones ins) before) (Refused (plain 7 0) before (output ins before)) _ (passed 0 ins before tt tt h)
     (inr (not-found (AgreeOff (base 1) (whole (flags-of 0)) (cells (base 1) (ones ins))) ins before h nothing))
   where
     nothing : (y : Cells) → Good (base 1) y → AgreeOff (base 1) (whole (flags-of 0)) (cells (base 1) (ones ins)) y → ⊥
@@ -242,14 +245,14 @@ tested-carries ins payload before t = record {
 
 -- Flags that are refused, for every image of bits.
 module _ (image before : List ℕ) (l : length image ≡ 414) (bits : first-bad image ≡ 414) (h : 414 ≤ length before) where
-  refused-15 : (rest : Type 0) → First (repair-checks 1 15 image before) (Refused (plain 6 0) before before) rest
+  refused-15 : (rest : Type 0) → First (checks-of 15 image before) (Refused (plain 6 0) before before) rest
   unfolding flags-code flag-count sum reach-code look-up
   refused-15 rest = inr (
     λ d. ⊎-elim (λ e. omega arith) (λ e. omega arith) d,
     inr (λ d. d l, inr (λ r. omega arith, inr (λ r. omega arith, inr (λ r. omega arith, inl (refl, record { result = refl; output = refl }))))),
   )
 
-  refused-18 : (rest : Type 0) → First (repair-checks 1 (2 ^ 18) image before) (Refused (plain 5 0) before before) rest
+  refused-18 : (rest : Type 0) → First (checks-of (2 ^ 18) image before) (Refused (plain 5 0) before before) rest
   refused-18 rest = inr (
     λ d. ⊎-elim (λ e. omega arith) (λ e. omega arith) d,
     inr (λ d. d l, inr (λ r. omega arith, inr (λ r. omega arith, inl (omega arith, record { result = refl; output = refl })))),
@@ -276,7 +279,7 @@ encode-128 before h = inr (
 trace-none : Holds (trace 0 (a 0 1 ∷ a 0 2 ∷ []) (plain 7 0) (a 0 1 ∷ a 0 2 ∷ []))
 unfolding two-ones flags-code flag-count sum reach-code look-up
 trace-none before h =
-    first-passed (repair-checks 1 0 (ones two-ones) before) (Refused (plain 7 0) before (output two-ones before)) _ (passed 0 two-ones before tt tt h)
+    first-passed (checks-of 0 (ones two-ones) before) (Refused (plain 7 0) before (output two-ones before)) _ (passed 0 two-ones before tt tt h)
     (inr (not-found (InReach (base 1) (flags-code (base 1) (flags-of 0)) (flags-of 0) (cells (base 1) (ones two-ones))) two-ones before h no-trace))
 
 -- The one table.

@@ -1,7 +1,7 @@
 -- The changed mask, cells and extras are those of the cells that differ.
 use mathlib.Core.Path.{_≡_, refl, sym, ap, _∙_}
-use mathlib.Core.Logic.{by-cases}
-use mathlib.Core.Bool.{Bool, true, false}
+use mathlib.Core.Logic.{_≢_, _↔_, by-cases}
+use mathlib.Core.Bool.{Bool, true, false, true≢false}
 use Prim.Native.Nat.{ℕ, zero, suc, _+_, _*_, _-_, _/_, _%_, _^_, _<_, _≤_}
 use native.Mathlib.Decide.{ℕ-discrete}
 use native.Mathlib.Nat.{mul-zero, mul-one, mul-add, pow-suc, add-zero, add-suc, add-mul-div-right, div-eq-of-lt}
@@ -11,9 +11,10 @@ use lib.Dec.{eqb, ltb}
 use lib.Pow.{pow-pos, pow-add}
 use Rattle.code.specs.Record.{TrackSet, A, B, Shape, tracks, track-length, Cells, sum}
 use Rattle.code.specs.Image.{track-number, all-tracks}
-use Rattle.code.specs.Flags.{TrackFlags, whole, bit, flag-count, AgreeOff}
+use Rattle.code.specs.Flags.{TrackFlags, whole, word-flags, bit, flag-count, AgreeOff}
 use Rattle.code.specs.Reach.{pick}
 use Rattle.code.specs.Calls.{differ, changed-in, over-tracks, changed-cells, mask-bit, changed-mask}
+use Rattle.code.specs.Supply.{Differ}
 use Rattle.code.proofs.Places.{number-lt}
 use Rattle.code.proofs.Sums.{sum-same, sum-zero, sum-le}
 
@@ -42,6 +43,23 @@ sum-zero-at (suc n) f e t l = by-cases (ℕ-discrete t n)
     (λ p. ap f p ∙ omega arith)
     (λ d. sum-zero-at n f (omega arith) t (omega arith))
 
+-- A sum is not 0 only if some term is not.
+record Some (n : ℕ) (f : ℕ → ℕ) : Type 0 where
+  at : ℕ
+  inside : at < n
+  nonzero : f at ≢ 0
+
+sum-some : (n : ℕ) (f : ℕ → ℕ) → sum n f ≢ 0 → Some n f
+unfolding sum
+sum-some zero f d = absurd (d refl)
+sum-some (suc n) f d = go (ℕ-discrete (f n) 0) (sum-some n f)
+  where
+    go : Dec (f n ≡ 0) → (sum n f ≢ 0 → Some n f) → Some (suc n) f
+    go (no e) rest = record { at = n; inside = omega arith; nonzero = e }
+    go (yes e) rest =
+        let k = rest (λ z. d (omega arith)) in
+        record { at = k .at; inside = omega arith; nonzero = k .nonzero }
+
 module _ (sh : Shape) (x y : Cells) (s : TrackSet) (t : ℕ) where
   -- A track has at most L changed cells.
   pub changed-in-le : changed-in sh x y s t ≤ track-length sh
@@ -56,6 +74,16 @@ module _ (sh : Shape) (x y : Cells) (s : TrackSet) (t : ℕ) where
   pub unchanged-cells : changed-in sh x y s t ≡ 0 → (m : ℕ) → m < track-length sh → x s t m ≡ y s t m
   unfolding changed-in
   unchanged-cells e m l = differ-zero (x s t m) (y s t m) (sum-zero-at (track-length sh) _ e m l)
+
+  -- It has some exactly if some cell differs.
+  pub changed-differ : (changed-in sh x y s t ≢ 0) ↔ Differ sh x y s t
+  unfolding changed-in
+  changed-differ = (
+    λ d.
+        let k = sum-some (track-length sh) _ d in
+        record { position = k .at; inside = k .inside; unequal = λ e. k .nonzero (ap (λ (b : Bool). pick b 0 1) (eq-eqb _ _ e)) },
+    λ c e. c .unequal (unchanged-cells e (c .position) (c .inside)),
+  )
 
 -- Changed cells never exceed L times the tracks allowed.
 sum-times : (n k : ℕ) (f : ℕ → ℕ) → sum n (λ t. k * f t) ≡ k * sum n f
@@ -154,3 +182,20 @@ module _ (sh : Shape) (x y : Cells) where
       changed-mask sh x y / 2 ^ track-number sh s t % 2 ≡ pick (eqb (changed-in sh x y s t) 0) 0 1
   mask-exact s t l = rw mask-sum (mask-at (all-tracks sh) by-number (track-number sh s t) (number-lt sh s t l)
       ∙ ap (λ (k : ℕ). pick (eqb k 0) 0 1) (number-is s t l))
+
+  -- It is the flag word of the tracks in which a cell differs.
+  pub mask-differ : (s : TrackSet) (t : ℕ) → t < tracks sh s → (word-flags sh (changed-mask sh x y) s t ≡ true) ↔ Differ sh x y s t
+  mask-differ s t l = (λ e. changed-differ sh x y s t .0 (set (ap (λ (v : ℕ). eqb v 1) (sym at) ∙ e)), λ d. ap (λ (v : ℕ). eqb v 1) at ∙ unset (changed-differ sh x y s t .1 d))
+    where
+      at : changed-mask sh x y / 2 ^ track-number sh s t % 2 ≡ pick (eqb (changed-in sh x y s t) 0) 0 1
+      at = mask-exact s t l
+
+      set : eqb (pick (eqb (changed-in sh x y s t) 0) 0 1) 1 ≡ true → changed-in sh x y s t ≢ 0
+      set e z = true≢false (sym e ∙ ap (λ (b : Bool). eqb (pick b 0 1) 1) (eq-eqb _ _ z))
+
+      unset : changed-in sh x y s t ≢ 0 → eqb (pick (eqb (changed-in sh x y s t) 0) 0 1) 1 ≡ true
+      unset d = ap (λ (b : Bool). eqb (pick b 0 1) 1) (ne-eqb _ _ d)
+
+  -- The mask has no bit from 18 up.
+  pub mask-small : changed-mask sh x y < 2 ^ all-tracks sh
+  mask-small = rw mask-sum (mask-lt (all-tracks sh) by-number)

@@ -78,3 +78,19 @@ module _ (sh : Shape) (f : TrackFlags) (x y : Cells) (s : TrackSet) where
   one-named (suc t) u l e h = by-cases (ℕ-discrete t u)
       (λ i. here-named t u i e (none-named t (λ v k d. h v (omega arith) d (omega arith))))
       (λ d. one-more t (λ g. h t (omega arith) g d) ∙ one-named t u (omega arith) e (λ v k. h v (omega arith)))
+
+  -- Where none is named, every unflagged track is unchanged.
+  pub named-none : (k : ℕ) → changed-extra sh f x y s k ≡ none → (t : ℕ) → t < k → f s t ≡ false → changed-in sh x y s t ≡ 0
+  unfolding changed-extra
+  named-none zero e t l u = absurd (omega arith)
+  named-none (suc k) e t l u = go (named-none k) (f s k) (eqb (changed-in sh x y s k) 0) refl refl e
+    where
+      earlier : (changed-extra sh f x y s k ≡ none → (t : ℕ) → t < k → f s t ≡ false → changed-in sh x y s t ≡ 0) →
+          changed-extra sh f x y s k ≡ none → t ≢ k → changed-in sh x y s t ≡ 0
+      earlier rest w d = rest w t (omega arith) u
+
+      go : (changed-extra sh f x y s k ≡ none → (t : ℕ) → t < k → f s t ≡ false → changed-in sh x y s t ≡ 0) → (p q : Bool) → f s k ≡ p →
+          eqb (changed-in sh x y s k) 0 ≡ q → pick (not p && not q) (extra (track-number sh s k)) (changed-extra sh f x y s k) ≡ none → changed-in sh x y s t ≡ 0
+      go rest false false i j w = let z : _≡_ {A = ℕ} 0 1 = cc in absurd (omega arith)
+      go rest false true i j w = by-cases (ℕ-discrete t k) (λ e. ap (changed-in sh x y s) e ∙ eqb-true _ _ j) (earlier rest w)
+      go rest true q i j w = earlier rest w (λ e. true≢false (sym i ∙ ap (f s) (sym e) ∙ u))

@@ -1,17 +1,15 @@
 -- Laws of the checks: a list of bits has no bad cell, and checks that do not apply are passed by.
-use mathlib.Core.Path.{_≡_, refl, sym, ap, _∙_}
+use mathlib.Core.Path.{_≡_, refl, sym, ap}
 use mathlib.Core.Logic.{inl, inr, ⊎-elim, _≢_}
 use mathlib.Core.Bool.{Bool, true, false}
-use mathlib.Core.List.{List, [], _∷_}
+use mathlib.Core.List.{List, [], _∷_, _++_}
 use Prim.Native.Nat.{ℕ, zero, suc, _+_, _<_, _≤_}
 use native.Mathlib.Omega.{arith}
 use lib.Dec.{ltb}
 use lib.ListN.{length, getD}
 use borrow.Author.Tests.{lt-ltb, le-ltb, ltb-true}
-use Rattle.code.specs.Record.{base}
-use Rattle.code.specs.Flags.{word-flags}
-use Rattle.code.specs.Reach.{pick, flags-code}
-use Rattle.code.specs.Calls.{Result, Refused, repair-checks}
+use Rattle.code.specs.Reach.{pick}
+use Rattle.code.specs.Calls.{Result, plain, Refused, Answered}
 use Rattle.code.specs.Numbers.{Check, count-check, First, Passed, first-bad}
 
 -- Where the first i cells are bits and cell i is not, the first bad cell is i.
@@ -46,6 +44,7 @@ first-bad-before (x ∷ xs) k h = go k (ltb x 2) refl h (first-bad-before xs)
 pub counted : (n : ℕ) → n ≢ 0 → n ≤ 256 → ¬ count-check n .applies
 counted n some few = ⊎-elim some (λ many. omega arith)
 
+-- A list of checks that all do not apply says what the rest does.
 pub first-passed : (cs : List {1} Check) (right : Check → Type 0) (rest : Type 0) → Passed cs → rest → First cs right rest
 first-passed [] right rest p r = r
 first-passed (c ∷ cs) right rest p r = inr (p .0, first-passed cs right rest (p .1) r)
@@ -56,24 +55,65 @@ passed-on [] right rest p f = f
 passed-on (c ∷ cs) right rest p (inl a) = absurd (p .0 (a .0))
 passed-on (c ∷ cs) right rest p (inr a) = passed-on cs right rest (p .1) (a .1)
 
+-- Of two lists one after the other, both are passed.
+pub passed-both : (cs ds : List {1} Check) → Passed (cs ++ ds) → Passed cs × Passed ds
+passed-both [] ds p = (tt, p)
+passed-both (c ∷ cs) ds p = let q = passed-both cs ds (p .1) in ((p .0, q .0), q .1)
+
+pub passed-append : (cs ds : List {1} Check) → Passed cs → Passed ds → Passed (cs ++ ds)
+passed-append [] ds p q = q
+passed-append (c ∷ cs) ds p q = (p .0, passed-append cs ds (p .1) q)
+
+-- So is the last.
+pub passed-last : (cs : List {1} Check) (c : Check) → Passed (cs ++ (c ∷ [])) → ¬ c .applies
+passed-last cs c p = passed-both cs (c ∷ []) p .1 .0
+
+-- The checks of two lists, one after the other.
+pub first-append : (cs ds : List {1} Check) (right : Check → Type 0) (rest : Type 0) → First (cs ++ ds) right rest → First cs right (First ds right rest)
+first-append [] ds right rest f = f
+first-append (c ∷ cs) ds right rest (inl a) = inl a
+first-append (c ∷ cs) ds right rest (inr a) = inr (a .0, first-append cs ds right rest (a .1))
+
+-- Past the first list, the second says what is right.
+pub first-after : (cs ds : List {1} Check) (right : Check → Type 0) (rest : Type 0) → Passed cs → First ds right rest → First (cs ++ ds) right rest
+first-after [] ds right rest p f = f
+first-after (c ∷ cs) ds right rest p f = inr (p .0, first-after cs ds right rest (p .1) f)
+
+-- ## What a call answers
+
+-- Every check of a list has this.
+abbrev pub Each : (Check → Type 0) → List {1} Check → Type 0
+Each P [] = Unit {0}
+Each P (c ∷ cs) = P c × Each P cs
+
+pub each-append : (P : Check → Type 0) (cs ds : List {1} Check) → Each P cs → Each P ds → Each P (cs ++ ds)
+each-append P [] ds p q = q
+each-append P (c ∷ cs) ds p q = (p .0, each-append P cs ds (p .1) q)
+
+pub each-map : (cs : List {1} Check) {P Q : Check → Type 0} → ((c : Check) → P c → Q c) → Each P cs → Each Q cs
+each-map [] h e = tt
+each-map (c ∷ cs) h e = (h c (e .0), each-map cs h (e .1))
+
+-- What holds of each refusal and of the answers past the checks holds of every answer.
+pub answered : (P : Result → List ℕ → Type 0) (cs : List {1} Check) (done : Result → List ℕ → Type 0) (before : List ℕ) (r : Result) (after : List ℕ) →
+    Each (λ c. P (plain (c .number) (c .detail)) before) cs → (done r after → P r after) → Answered cs done before r after → P r after
+answered P [] done before r after each h f = h f
+answered P (c ∷ cs) done before r after each h (inl a) = rw (a .1 .result, a .1 .output) (each .0)
+answered P (c ∷ cs) done before r after each h (inr a) = answered P cs done before r after (each .1) h (a .1)
+
 -- None of the checks has this number.
 abbrev pub Avoids : ℕ → List {1} Check → Type 0
-Avoids k [] = Unit {0}
-Avoids k (c ∷ cs) = (c .number ≢ k) × Avoids k cs
+Avoids k cs = Each (λ c. c .number ≢ k) cs
 
 pub record Through (cs : List {1} Check) (rest : Type 0) : Type 0 where
   pub passed : Passed cs
   pub done : rest
 
 -- A call that answers none of its checks' numbers met none of them.
-pub unrefused : (cs : List {1} Check) (r : Result) (before after : List ℕ) (rest : Type 0) (k : ℕ) → Avoids k cs →
-    First cs (Refused r before after) rest → r .answer ≡ k → Through cs rest
-unrefused [] r before after rest k v f e = record { passed = tt; done = f }
-unrefused (c ∷ cs) r before after rest k v (inl a) e = absurd (v .0 (sym (ap (λ (q : Result). q .answer) (a .1 .result)) ∙ e))
-unrefused (c ∷ cs) r before after rest k v (inr a) e =
-    let t = unrefused cs r before after rest k (v .1) (a .1) e in
+pub unrefused : (cs : List {1} Check) (r : Result) (before after : List ℕ) (rest : Type 0) → Avoids (r .answer) cs →
+    First cs (Refused r before after) rest → Through cs rest
+unrefused [] r before after rest v f = record { passed = tt; done = f }
+unrefused (c ∷ cs) r before after rest v (inl a) = absurd (v .0 (sym (ap (λ (q : Result). q .answer) (a .1 .result))))
+unrefused (c ∷ cs) r before after rest v (inr a) =
+    let t = unrefused cs r before after rest (v .1) (a .1) in
     record { passed = (a .0, t .passed); done = t .done }
-
--- After the checks of repair and tracing the flags have a code.
-pub passed-code : (n flags : ℕ) (image before : List ℕ) → Passed (repair-checks n flags image before) → flags-code (base n) (word-flags (base n) flags) ≡ 0 → ⊥
-passed-code n flags image before p = p .1 .1 .1 .1 .1 .0

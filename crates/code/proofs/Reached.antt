@@ -8,7 +8,7 @@ use lib.Dec.{eqb}
 use borrow.Author.Tests.{eq-eqb, ne-eqb}
 use Rattle.code.specs.Record.{TrackSet, A, B, closed-tail, Shape, tracks, Cells, sum, Good, Same}
 use Rattle.code.specs.Flags.{TrackFlags, whole, bit, flag-count, AgreeOff, Within}
-use Rattle.code.specs.Reach.{Extra, none, extra, size, is, Choice, with-extras, InReach, flags-code}
+use Rattle.code.specs.Reach.{Extra, none, extra, size, is, Choice, with-extras, InReach, flags-code, AtMostOne}
 use Rattle.code.proofs.Sums.{sum-le, sum-add, sum-zero, sum-one}
 use Rattle.code.proofs.Patterns.{neither}
 use Rattle.code.proofs.Unique.{unique-tracks}
@@ -24,9 +24,8 @@ agree-through sh f g h z x y p q off = record {
 }
 
 -- At most one good record differs from z only in flagged tracks.
-pub repaired-unique : (sh : Shape) (f : TrackFlags) (z x y : Cells) → Within sh f → Good sh x → Good sh y →
-    AgreeOff sh (whole f) z x → AgreeOff sh (whole f) z y → Same sh x y
-repaired-unique sh f z x y w gx gy p q = unique-tracks sh x y gx gy f w (agree-through sh f f f z x y p q (λ s t e. (e, e)))
+pub repaired-unique : (sh : Shape) (f : TrackFlags) (z : Cells) → Within sh f → AtMostOne sh (AgreeOff sh (whole f) z)
+repaired-unique sh f z w x y gx gy p q = unique-tracks sh x y gx gy f w (agree-through sh f f f z x y p q (λ s t e. (e, e)))
 
 -- Two records that are in reach by choices which together with the flags stay within the limit are the same.
 pub reached-within : (sh : Shape) (code : ℕ) (f : TrackFlags) (z x y : Cells) → Good sh x → Good sh y →
@@ -70,10 +69,10 @@ count-extras sh f e s = omega (
 )
 
 -- For every code of the table two choices stay within the limit, so at most one good record is in reach.
-pub reached-unique : (sh : Shape) (f : TrackFlags) (z x y : Cells) → sh .closing ≡ closed-tail → (flags-code sh f ≡ 0 → ⊥) →
-    Good sh x → Good sh y → InReach sh (flags-code sh f) f z x → InReach sh (flags-code sh f) f z y → Same sh x y
+pub reached-unique : (sh : Shape) (f : TrackFlags) (z : Cells) → sh .closing ≡ closed-tail → (flags-code sh f ≡ 0 → ⊥) →
+    AtMostOne sh (InReach sh (flags-code sh f) f z)
 unfolding flags-code
-reached-unique sh f z x y c n gx gy rx ry =
+reached-unique sh f z c n x y gx gy rx ry =
     let room = code-room _ _ n in
     reached-within sh _ f z x y gx gy rx ry
     (closed-within sh both c

@@ -1,82 +1,94 @@
--- What the relations of encoder and reader say together (point 2, docs/ASSURANCE.md).
-use mathlib.Core.Path.{_≡_, refl, sym, ap, _∙_}
-use mathlib.Core.Logic.{_⊎_, inl, inr}
-use mathlib.Core.List.{List}
-use Prim.Native.Nat.{ℕ, _<_, _≤_}
+-- What encoder and reader do together (point 2), for any shape of n blocks and any checks.
+use mathlib.Core.Path.{_≡_, sym, ap}
+use mathlib.Core.Logic.{inl, inr, _≢_}
+use mathlib.Core.List.{List, [], _∷_, _++_}
+use Prim.Native.Nat.{ℕ, _*_, _<_}
 use native.Mathlib.Omega.{arith}
 use lib.ListN.{length, getD}
-use Rattle.code.specs.Record.{base, Cells, Good, Same}
+use Rattle.code.specs.Record.{Shape, Good, Same}
 use Rattle.code.specs.Image.{image-size, cells}
-use Rattle.code.specs.Payload.{payload-size, Carries}
-use Rattle.code.specs.Numbers.{Passed}
-use Rattle.code.specs.Calls.{
-  Result,
-  plain,
-  Refused,
-  encode-checks,
-  Encodes,
-  Encoded,
-  read-checks,
-  Reads,
-  NotRead,
-  ReadOrNot,
-  WasRead,
-}
+use Rattle.code.specs.Payload.{payload-size}
+use Rattle.code.specs.Numbers.{Check, cell-check, Decides, Passed}
+use Rattle.code.specs.Calls.{Result, plain, Refused, Answered, Encodes, Reads, ReadOrNot}
+use Rattle.code.specs.Supply.{Point2}
 use Rattle.code.proofs.Linear.{same-sym, good-same}
-use Rattle.code.proofs.Numbers.{unrefused, passed-on}
+use Rattle.code.proofs.Numbers.{first-bad-none, first-append, each-append, Avoids, unrefused}
 use Rattle.code.proofs.Payloads.{payload-fixed, same-payload, carries-same, carried-as}
-use Rattle.code.proofs.Places.{cell-lt}
-
--- An image and a list that begins with it have the same cells.
-same-cells : (n : ℕ) (image out : List ℕ) → ((i : ℕ) → i < image-size (base n) → getD image i 0 ≡ getD out i 0) →
-    Same (base n) (cells (base n) image) (cells (base n) out)
-same-cells n image out e = record { cell = λ s t m l b. e _ (cell-lt (base n) s t m l b) }
-
--- ## Encoder
-
--- With answer 0 the output holds the good record of the payload.
-pub encoded-0 : (n : ℕ) (payload before : List ℕ) (r : Result) (after : List ℕ) → Encoded n payload before r after → r .answer ≡ 0 →
-    Encodes n payload before r after
-encoded-0 n payload before r after e z = unrefused (encode-checks n payload before) r before after (Encodes n payload before r after) 0 (omega arith) e z .done
+use Rattle.code.proofs.Places.{Place, place}
 
 -- ## Reader
 
--- No other image is read.
-pub read-0 : (n : ℕ) (image before : List ℕ) (r : Result) (after : List ℕ) → WasRead n image before r after → r .answer ≡ 0 →
-    Good (base n) (cells (base n) image) × Reads n image before r after
-read-0 n image before r after e z = go (unrefused (read-checks n image before) r before after (ReadOrNot n image before r after) 0 (omega arith) e z .done)
+-- A good record has no bad cell.
+no-bad-cell : (sh : Shape) (image : List ℕ) → length image ≡ image-size sh → Good sh (cells sh image) → ¬ cell-check image .applies
+no-bad-cell sh image whole good bad = omega (arith, first-bad-none image (λ k l. at k (place sh k (omega arith))))
   where
-    go : ReadOrNot n image before r after → Good (base n) (cells (base n) image) × Reads n image before r after
-    go (inl a) = a
-    go (inr a) = absurd (omega (arith, ap (λ (q : Result). q .answer) (a .1 .result)))
+    at : (k : ℕ) → Place sh k → getD image k 0 < 2
+    at k p = rw (sym (p .at)) (good .bits (p .set) (p .track) (p .position) (p .has-track) (p .has-position))
 
--- Every good record is read.
-pub read-good : (n : ℕ) (image before : List ℕ) (r : Result) (after : List ℕ) → WasRead n image before r after → Passed (read-checks n image before) →
-    Good (base n) (cells (base n) image) → Reads n image before r after
-read-good n image before r after e p g = go (passed-on (read-checks n image before) (Refused r before after) (ReadOrNot n image before r after) p e)
-  where
-    go : ReadOrNot n image before r after → Reads n image before r after
-    go (inl a) = a .1
-    go (inr a) = absurd (a .0 g)
+module _ (sh : Shape) (n : ℕ) (image before : List ℕ) (r : Result) (after : List ℕ) where
+  -- Every good record is read.
+  pub read-good : ReadOrNot sh n image before r after → Good sh (cells sh image) → Reads sh n image before r after
+  read-good (inl a) g = a .1
+  read-good (inr a) g = absurd (a .0 g)
+
+  -- No other image is.
+  pub read-0 : ReadOrNot sh n image before r after → r .answer ≡ 0 → Good sh (cells sh image) × Reads sh n image before r after
+  read-0 (inl a) z = a
+  read-0 (inr a) z = absurd (omega (arith, ap (λ (q : Result). q .answer) (a .1 .result)))
 
 -- ## Both
 
--- What is encoded reads back.
-pub encoded-reads-back : (n : ℕ) (payload before : List ℕ) (r : Result) (after : List ℕ) → Encoded n payload before r after → r .answer ≡ 0 →
-    (image room : List ℕ) (q : Result) (out : List ℕ) → ((i : ℕ) → i < image-size (base n) → getD image i 0 ≡ getD after i 0) →
-    Passed (read-checks n image room) → WasRead n image room q out →
-    (q ≡ plain 0 0) × ((i : ℕ) → i < payload-size (base n) n → getD out i 0 ≡ getD payload i 0)
-encoded-reads-back n payload before r after e z image room q out same p w =
-    let done = encoded-0 n payload before r after e z in
-    let cells-same = same-cells n image after same in
-    let found = read-good n image room q out w p (good-same (base n) _ _ (same-sym cells-same) (done .good)) in
-    (found .result, payload-fixed (base n) n (cells (base n) after) out payload (carries-same (base n) n refl _ _ cells-same out (found .carries)) (done .carries))
+module _ (sh : Shape) (n : ℕ) (blocks : sh .positions ≡ 8 * n) where
+  -- What is encoded reads back.
+  pub encoded-reads-back : (payload before : List ℕ) (r : Result) (after : List ℕ) → Encodes sh n payload before r after →
+      (image room : List ℕ) (q : Result) (out : List ℕ) → Same sh (cells sh image) (cells sh after) → ReadOrNot sh n image room q out →
+      (q ≡ plain 0 0) × ((i : ℕ) → i < payload-size sh n → getD out i 0 ≡ getD payload i 0)
+  encoded-reads-back payload before r after done image room q out same w =
+      let found = read-good sh n image room q out w (good-same sh _ _ (same-sym same) (done .good)) in
+      (found .result, payload-fixed sh n (cells sh after) out payload (carries-same sh n blocks _ _ same out (found .carries)) (done .carries))
 
--- A record that was read, its payload encoded: the record again.
-pub read-encodes-back : (n : ℕ) (image before : List ℕ) (r : Result) (after : List ℕ) → WasRead n image before r after → r .answer ≡ 0 →
-    (payload room : List ℕ) (q : Result) (out : List ℕ) → ((i : ℕ) → i < payload-size (base n) n → getD payload i 0 ≡ getD after i 0) →
-    Encoded n payload room q out → q .answer ≡ 0 → Same (base n) (cells (base n) out) (cells (base n) image)
-read-encodes-back n image before r after w z payload room q out same e z′ =
-    let found = read-0 n image before r after w z in
-    let done = encoded-0 n payload room q out e z′ in
-    same-payload (base n) n refl _ _ (done .good) (found .0) payload (done .carries) (carried-as (base n) n _ after payload same (found .1 .carries))
+  -- A record that was read, its payload encoded: the record again.
+  pub read-encodes-back : (image before : List ℕ) (r : Result) (after : List ℕ) → ReadOrNot sh n image before r after → r .answer ≡ 0 →
+      (payload room : List ℕ) (q : Result) (out : List ℕ) → ((i : ℕ) → i < payload-size sh n → getD payload i 0 ≡ getD after i 0) →
+      Encodes sh n payload room q out → Same sh (cells sh out) (cells sh image)
+  read-encodes-back image before r after w z payload room q out same done =
+      let found = read-0 sh n image before r after w z in
+      same-payload sh n blocks _ _ (done .good) (found .0) payload (done .carries) (carried-as sh n _ after payload same (found .1 .carries))
+
+-- ## Point 2
+
+-- Of an encoder and a reader whose checks give 1 to 3, the reader's bad cells after them.
+module _ (sh : Shape) (n : ℕ) (encode-checks read-checks : List ℕ → List ℕ → List {1} Check)
+    (encode-numbers : (payload before : List ℕ) → Avoids 0 (encode-checks payload before))
+    (read-numbers : (image before : List ℕ) (k : ℕ) → k ≢ 1 → k ≢ 2 → k ≢ 3 → Avoids k (read-checks image before))
+    (read-size : (image before : List ℕ) → Passed (read-checks image before) → length image ≡ image-size sh) where
+  abbrev encoded : List ℕ → List ℕ → Result → List ℕ → Type 0
+  encoded payload before = Answered (encode-checks payload before) (Encodes sh n payload before) before
+
+  abbrev was-read : List ℕ → List ℕ → Result → List ℕ → Type 0
+  was-read image before = Answered (read-checks image before ++ (cell-check image ∷ [])) (ReadOrNot sh n image before) before
+
+  -- With answer 0 the checks are passed.
+  encodes : (payload before : List ℕ) (r : Result) (after : List ℕ) → encoded payload before r after → r .answer ≡ 0 → Encodes sh n payload before r after
+  encodes payload before r after c z = unrefused (encode-checks payload before) r before after _ (rw z (encode-numbers payload before)) c .done
+
+  reads : (image before : List ℕ) (r : Result) (after : List ℕ) → was-read image before r after → r .answer ≡ 0 → Good sh (cells sh image) × Reads sh n image before r after
+  reads image before r after c z = read-0 sh n image before r after (unrefused (read-checks image before ++ (cell-check image ∷ [])) r before after _
+      (each-append _ (read-checks image before) (cell-check image ∷ []) (read-numbers image before (r .answer) (omega arith) (omega arith) (omega arith)) (λ e. omega arith, tt)) c .done) z
+
+  pub round-trip : Point2 sh n encoded was-read
+  round-trip = record {
+    equations = λ payload before r after c z. encodes payload before r after c z .good;
+    carried = λ payload before r after c z. encodes payload before r after c z .carries;
+    is-read = λ image before r after c u good.
+        let t = unrefused (read-checks image before) r before after _ (read-numbers image before (r .answer) (u .0) (u .1 .0) (u .1 .1 .0))
+        (first-append (read-checks image before) (cell-check image ∷ []) (Refused r before after) (ReadOrNot sh n image before r after) c) in
+        past image before r after (read-size image before (t .passed)) good (t .done);
+    reads-back = λ image before r after c z payload carries. payload-fixed sh n _ after payload (reads image before r after c z .1 .carries) carries;
+    no-other = λ image before r after c z. reads image before r after c z .0;
+  }
+    where
+      past : (image before : List ℕ) (r : Result) (after : List ℕ) → length image ≡ image-size sh → Good sh (cells sh image) →
+          Decides (cell-check image .applies) (Refused r before after (cell-check image)) (ReadOrNot sh n image before r after) → r .answer ≡ 0
+      past image before r after whole good (inl a) = absurd (no-bad-cell sh image whole good (a .0))
+      past image before r after whole good (inr a) = ap (λ (q : Result). q .answer) (read-good sh n image before r after (a .1) good .result)

@@ -1,24 +1,24 @@
--- Document 01: for each call, which answer and which output bytes are right for an input.
+-- Document 01: for each call, which answer and which output bytes are right for an input, over any shape, any list of checks and any
+-- flags. Contracts.antt has the calls of document 01 with its own.
 use mathlib.Core.Path.{_≡_}
 use mathlib.Core.Logic.{_⊎_}
 use mathlib.Core.Bool.{Bool, true, false, _&&_, not}
-use mathlib.Core.List.{List, [], _∷_}
+use mathlib.Core.List.{List, [], _∷_, _++_}
 use Prim.Native.Nat.{ℕ, zero, suc, _+_, _*_, _^_, _<_, _≤_}
 use lib.ListN.{length, getD, take, drop}
-use lib.Dec.{eqb, ltb}
-use Rattle.code.specs.Record.{TrackSet, A, B, Shape, base, tracks, data-tracks, track-length, Cells, sum, Good}
+use lib.Dec.{eqb}
+use Rattle.code.specs.Record.{TrackSet, A, B, Shape, tracks, track-length, Cells, sum, Good}
 use Rattle.code.specs.Image.{track-number, all-tracks, image-size, cells}
-use Rattle.code.specs.Payload.{payload-size, payload-index, payload-byte, Carries}
-use Rattle.code.specs.Flags.{TrackFlags, whole, word-flags, AgreeOff}
-use Rattle.code.specs.Reach.{pick, flags-code, Extra, none, extra, InReach}
+use Rattle.code.specs.Payload.{payload-size, Carries}
+use Rattle.code.specs.Flags.{TrackFlags, CellFlags, AgreeOff}
+use Rattle.code.specs.Reach.{pick, Extra, none, extra, InReach}
 use Rattle.code.specs.Numbers.{
   Check,
-  count-check,
-  length-check,
-  room-check,
-  cell-check,
   flag-check,
   reach-check,
+  input-checks,
+  size-checks,
+  image-checks,
   Decides,
   First,
 }
@@ -43,6 +43,11 @@ pub record Refused (r : Result) (before after : List ℕ) (c : Check) : Type 0 w
   pub result : r ≡ plain (c .number) (c .detail)
   pub output : after ≡ before
 
+-- This answer and this output are right for a call with these checks: the first that applies refuses it, and where none applies
+-- `done` says what is right.
+abbrev pub Answered : List {1} Check → (Result → List ℕ → Type 0) → List ℕ → Result → List ℕ → Type 0
+Answered checks done before r after = First checks (Refused r before after) (done r after)
+
 -- Bytes from `size` up stay.
 pub record Stays (size : ℕ) (before after : List ℕ) : Type 0 where
   pub lengths : length after ≡ length before
@@ -50,30 +55,28 @@ pub record Stays (size : ℕ) (before after : List ℕ) : Type 0 where
 
 -- ## Encoder
 
--- 0: the output's first bytes are the good record that carries the payload; there is one (`same-payload` of proofs/Payloads).
-pub record Encodes (n : ℕ) (payload before : List ℕ) (r : Result) (after : List ℕ) : Type 0 where
-  pub result : r ≡ plain 0 0
-  pub good : Good (base n) (cells (base n) after)
-  pub carries : Carries (base n) n (cells (base n) after) payload
-  pub stays : Stays (image-size (base n)) before after
-
 -- It gives 1 to 3.
-abbrev pub encode-checks : ℕ → List ℕ → List ℕ → List {1} Check
-encode-checks n payload before =
-    count-check n ∷ length-check (payload-size (base n) n) payload ∷ room-check (image-size (base n)) before ∷ []
+abbrev pub encode-checks : Shape → ℕ → List ℕ → List ℕ → List {1} Check
+encode-checks sh n payload before = size-checks n (payload-size sh n) (length payload) (image-size sh) (length before)
 
--- This answer and this output are right for the encoder.
-abbrev pub Encoded : ℕ → List ℕ → List ℕ → Result → List ℕ → Type 0
-Encoded n payload before r after =
-    First (encode-checks n payload before) (Refused r before after) (Encodes n payload before r after)
+-- 0: the output's first bytes are the good record that carries the payload; there is one (`same-payload` of proofs/Payloads).
+pub record Encodes (sh : Shape) (n : ℕ) (payload before : List ℕ) (r : Result) (after : List ℕ) : Type 0 where
+  pub result : r ≡ plain 0 0
+  pub good : Good sh (cells sh after)
+  pub carries : Carries sh n (cells sh after) payload
+  pub stays : Stays (image-size sh) before after
 
 -- ## Reader
 
+-- It gives 1 to 4 and 7.
+abbrev pub read-checks : Shape → ℕ → List ℕ → List ℕ → List {1} Check
+read-checks sh n image before = image-checks n (image-size sh) image (payload-size sh n) (length before)
+
 -- 0: the payload fills the output's first bytes.
-pub record Reads (n : ℕ) (image before : List ℕ) (r : Result) (after : List ℕ) : Type 0 where
+pub record Reads (sh : Shape) (n : ℕ) (image before : List ℕ) (r : Result) (after : List ℕ) : Type 0 where
   pub result : r ≡ plain 0 0
-  pub carries : Carries (base n) n (cells (base n) image) after
-  pub stays : Stays (payload-size (base n) n) before after
+  pub carries : Carries sh n (cells sh image) after
+  pub stays : Stays (payload-size sh n) before after
 
 -- 7: the image is not good, and the output stays as it came.
 pub record NotRead (before : List ℕ) (r : Result) (after : List ℕ) : Type 0 where
@@ -81,18 +84,9 @@ pub record NotRead (before : List ℕ) (r : Result) (after : List ℕ) : Type 0 
   pub output : after ≡ before
 
 -- Which of the two: whether the image is good.
-abbrev pub ReadOrNot : ℕ → List ℕ → List ℕ → Result → List ℕ → Type 0
-ReadOrNot n image before r after =
-    Decides (Good (base n) (cells (base n) image)) (Reads n image before r after) (NotRead before r after)
-
--- It gives 1 to 4 and 7.
-abbrev pub read-checks : ℕ → List ℕ → List ℕ → List {1} Check
-read-checks n image before =
-    count-check n ∷ length-check (image-size (base n)) image ∷ room-check (payload-size (base n) n) before ∷ cell-check image ∷ []
-
--- Right for the reader.
-abbrev pub WasRead : ℕ → List ℕ → List ℕ → Result → List ℕ → Type 0
-WasRead n image before r after = First (read-checks n image before) (Refused r before after) (ReadOrNot n image before r after)
+abbrev pub ReadOrNot : Shape → ℕ → List ℕ → List ℕ → Result → List ℕ → Type 0
+ReadOrNot sh n image before r after =
+    Decides (Good sh (cells sh image)) (Reads sh n image before r after) (NotRead before r after)
 
 -- ## Changed cells
 
@@ -158,43 +152,30 @@ abbrev pub Mended : Shape → (Cells → Type 0) → (List ℕ → TrackSet → 
 Mended sh near named image before r after =
     Found sh near (named after) image before r after ⊎ NotFound sh near image before r after
 
--- Both calls give 1 to 6 first, then 0 or 7.
-abbrev pub repair-checks : ℕ → ℕ → List ℕ → List ℕ → List {1} Check
-repair-checks n flags image before =
-    count-check n
-    ∷ length-check (image-size (base n)) image
-    ∷ room-check (image-size (base n)) before
-    ∷ cell-check image
-    ∷ flag-check (base n) flags
-    ∷ reach-check (base n) flags
-    ∷ []
+-- 1 to 5, before the flags are counted, where the output has `room` bytes.
+abbrev pub early-checks : Shape → ℕ → ℕ → List ℕ → ℕ → List {1} Check
+early-checks sh n word image room = image-checks n (image-size sh) image (image-size sh) room ++ (flag-check sh word ∷ [])
 
--- Repair allows no extras: the good records that equal the image on every unflagged track.
-abbrev pub RepairNear : Shape → ℕ → List ℕ → Cells → Type 0
-RepairNear sh flags image = AgreeOff sh (whole (word-flags sh flags)) (cells sh image)
+-- Both calls give 1 to 6, by the flag word and by which tracks are flagged, then 0 or 7.
+abbrev pub repair-checks : Shape → ℕ → ℕ → TrackFlags → List ℕ → List ℕ → List {1} Check
+repair-checks sh n word f image before = early-checks sh n word image (length before) ++ (reach-check sh f ∷ [])
 
--- Right for the repairer.
-abbrev pub Repaired : ℕ → ℕ → List ℕ → List ℕ → Result → List ℕ → Type 0
-Repaired n flags image before r after =
-    First
-    (repair-checks n flags image before)
-    (Refused r before after)
-    (Mended (base n) (RepairNear (base n) flags image) (λ _ _. none) image before r after)
+-- Repair allows no extras: the good records that equal the image on every unflagged cell.
+abbrev pub RepairNear : Shape → CellFlags → List ℕ → Cells → Type 0
+RepairNear sh flag image = AgreeOff sh flag (cells sh image)
 
--- Tracing allows the extras of the table's code, and names those that were changed.
-abbrev pub TraceNear : Shape → ℕ → List ℕ → Cells → Type 0
-TraceNear sh flags image = InReach sh (flags-code sh (word-flags sh flags)) (word-flags sh flags) (cells sh image)
+abbrev pub Repairs : Shape → CellFlags → List ℕ → List ℕ → Result → List ℕ → Type 0
+Repairs sh flag image = Mended sh (RepairNear sh flag image) (λ _ _. none) image
 
-abbrev pub trace-named : Shape → ℕ → List ℕ → List ℕ → TrackSet → Extra
-trace-named sh flags image after s = changed-extra sh (word-flags sh flags) (cells sh image) (cells sh after) s (tracks sh s)
+-- Tracing allows the extras of a code, and names those that were changed.
+abbrev pub TraceNear : Shape → ℕ → TrackFlags → List ℕ → Cells → Type 0
+TraceNear sh code f image = InReach sh code f (cells sh image)
 
--- Right for the tracer.
-abbrev pub Traced : ℕ → ℕ → List ℕ → List ℕ → Result → List ℕ → Type 0
-Traced n flags image before r after =
-    First
-    (repair-checks n flags image before)
-    (Refused r before after)
-    (Mended (base n) (TraceNear (base n) flags image) (trace-named (base n) flags image) image before r after)
+abbrev pub trace-named : Shape → TrackFlags → List ℕ → List ℕ → TrackSet → Extra
+trace-named sh f image after s = changed-extra sh f (cells sh image) (cells sh after) s (tracks sh s)
+
+abbrev pub Traces : Shape → ℕ → TrackFlags → List ℕ → List ℕ → Result → List ℕ → Type 0
+Traces sh code f image = Mended sh (TraceNear sh code f image) (trace-named sh f image) image
 
 -- ## Track view
 
@@ -202,10 +183,9 @@ Traced n flags image before r after =
 abbrev pub track-check : Shape → ℕ → Check
 track-check sh g = record { number = 0; detail = 0; applies = all-tracks sh ≤ g }
 
-abbrev pub view-checks : ℕ → List ℕ → ℕ → List {1} Check
-view-checks n image g = count-check n ∷ length-check (image-size (base n)) image ∷ track-check (base n) g ∷ []
+abbrev pub view-checks : Shape → ℕ → List ℕ → ℕ → List {1} Check
+view-checks sh n image g = input-checks n (image-size sh) (length image) ++ (track-check sh g ∷ [])
 
--- The stretch of track number g, or an empty part where the count, the image's length or the track number is wrong.
-abbrev pub Viewed : ℕ → List ℕ → ℕ → List ℕ → Type 0
-Viewed n image g part =
-    First (view-checks n image g) (λ c. part ≡ []) (part ≡ take (track-length (base n)) (drop (g * track-length (base n)) image))
+-- The stretch of track number g, or an empty part where a check applies.
+abbrev pub Shown : List {1} Check → Shape → List ℕ → ℕ → List ℕ → Type 0
+Shown checks sh image g part = First checks (λ c. part ≡ []) (part ≡ take (track-length sh) (drop (g * track-length sh) image))

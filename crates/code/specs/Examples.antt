@@ -7,7 +7,8 @@ use Rattle.code.specs.Record.{A, B, base, track-length, Good}
 use Rattle.code.specs.Image.{track-number, image-size, cells}
 use Rattle.code.specs.Reach.{Extra, none, extra}
 use Rattle.code.specs.Numbers.{first-bad}
-use Rattle.code.specs.Calls.{Result, plain, Encoded, Repaired, Traced}
+use Rattle.code.specs.Calls.{Result, plain}
+use Rattle.code.specs.Contracts.{Encoded, Repaired, Traced}
 
 -- The index of A(m,t) and of B(m,t).
 abbrev pub a : ℕ → ℕ → ℕ

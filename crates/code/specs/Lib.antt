@@ -6,6 +6,8 @@ pub mod Flags
 pub mod Reach
 pub mod Numbers
 pub mod Calls
+pub mod Contracts
+pub mod Supply
 pub mod Examples
 pub mod Sizes
 pub mod Answers

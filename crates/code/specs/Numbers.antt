@@ -2,13 +2,13 @@
 use mathlib.Core.Path.{_≡_}
 use mathlib.Core.Logic.{_⊎_, _≢_}
 use mathlib.Core.Bool.{Bool}
-use mathlib.Core.List.{List, [], _∷_}
+use mathlib.Core.List.{List, [], _∷_, _++_}
 use Prim.Native.Nat.{ℕ, zero, suc, _^_, _<_, _≤_}
 use lib.ListN.{length}
 use lib.Dec.{ltb}
-use Rattle.code.specs.Record.{Shape, base}
-use Rattle.code.specs.Image.{all-tracks, image-size}
-use Rattle.code.specs.Flags.{word-flags}
+use Rattle.code.specs.Record.{Shape}
+use Rattle.code.specs.Image.{all-tracks}
+use Rattle.code.specs.Flags.{TrackFlags}
 use Rattle.code.specs.Reach.{pick, flags-code}
 
 -- A number, the detail that goes with it, and the condition under which it is given.
@@ -22,12 +22,12 @@ abbrev pub count-check : ℕ → Check
 count-check n = record { number = 1; detail = 0; applies = (n ≡ 0) ⊎ (256 < n) }
 
 -- 2: the input's length is not the size that the call asks for.
-abbrev pub length-check : ℕ → List ℕ → Check
-length-check size input = record { number = 2; detail = 0; applies = length input ≢ size }
+abbrev pub length-check : ℕ → ℕ → Check
+length-check size input = record { number = 2; detail = 0; applies = input ≢ size }
 
 -- 3: the output is shorter than the result.
-abbrev pub room-check : ℕ → List ℕ → Check
-room-check size output = record { number = 3; detail = 0; applies = length output < size }
+abbrev pub room-check : ℕ → ℕ → Check
+room-check size output = record { number = 3; detail = 0; applies = output < size }
 
 -- The index of the first cell that is neither 0 nor 1, and the length where there is none.
 unfoldable pub first-bad : List ℕ → ℕ
@@ -43,8 +43,22 @@ abbrev pub flag-check : Shape → ℕ → Check
 flag-check sh flags = record { number = 5; detail = 0; applies = 2 ^ all-tracks sh ≤ flags }
 
 -- 6: the table's code for the flags is 0.
-abbrev pub reach-check : Shape → ℕ → Check
-reach-check sh flags = record { number = 6; detail = 0; applies = flags-code sh (word-flags sh flags) ≡ 0 }
+abbrev pub reach-check : Shape → TrackFlags → Check
+reach-check sh f = record { number = 6; detail = 0; applies = flags-code sh f ≡ 0 }
+
+-- ## Lists of checks, in checking order
+
+-- 1 and 2: the block count, the size that the call asks for and the input's length.
+abbrev pub input-checks : ℕ → ℕ → ℕ → List {1} Check
+input-checks n wanted input = count-check n ∷ length-check wanted input ∷ []
+
+-- 1 to 3: also the result's size and the output's length.
+abbrev pub size-checks : ℕ → ℕ → ℕ → ℕ → ℕ → List {1} Check
+size-checks n wanted input size output = input-checks n wanted input ++ (room-check size output ∷ [])
+
+-- 1 to 4, of a call that is given an image.
+abbrev pub image-checks : ℕ → ℕ → List ℕ → ℕ → ℕ → List {1} Check
+image-checks n wanted image size output = size-checks n wanted (length image) size output ++ (cell-check image ∷ [])
 
 -- A condition decides between two statements.
 abbrev pub Decides : Type 0 → Type 0 → Type 0 → Type 0

@@ -83,6 +83,10 @@ pub record InReach (sh : Shape) (code : ℕ) (f : TrackFlags) (x y : Cells) : Ty
   pub allowed : Allowed sh code f choice
   pub agree : AgreeOff sh (whole (with-extras f choice)) x y
 
+-- At most one good record is among these.
+abbrev pub AtMostOne : Shape → (Cells → Type 0) → Type 0
+AtMostOne sh near = (x y : Cells) → Good sh x → Good sh y → near x → near y → Same sh x y
+
 -- Two different good records agree on all unflagged tracks: nothing tells which of them was written.
 pub record Ambiguous (sh : Shape) (f : TrackFlags) : Type 0 where
   pub one : Cells

@@ -1,7 +1,7 @@
 -- What the private functions ask and give.
 use mathlib.Core.Path.{_≡_}
 use mathlib.Core.Logic.{_≢_}
-use mathlib.Core.List.{List, [], _∷_}
+use mathlib.Core.List.{List}
 use Prim.Native.Nat.{ℕ, suc, _+_, _*_, _%_, _<_, _≤_}
 use lib.Dec.{ltb}
 use lib.ListN.{length, getD}
@@ -9,27 +9,10 @@ use Rattle.code.specs.Record.{TrackSet, other, Shape, data-tracks, track-length
 use Rattle.code.specs.Image.{image-size, cells}
 use Rattle.code.specs.Payload.{digits, payload-size, Carries}
 use Rattle.code.specs.Reach.{pick}
-use Rattle.code.specs.Numbers.{Check, count-check, First}
-use Rattle.code.specs.Calls.{plain}
 use Rattle.code.specs.Sizes.{shape, Small}
 use Rattle.code.specs.declared.Sizes.{Sizes}
 use Rattle.syndrome.specs.Syndrome.{row-of}
 use Rattle.syndrome.specs.Steps.{Rows}
-
--- ## Numbers
-
--- The first checks of each call, of an input's length and the room for a result.
-abbrev pub early-checks : ℕ → ℕ → ℕ → ℕ → ℕ → List {1} Check
-early-checks n input wanted room size =
-    count-check n
-    ∷ record { number = 2; detail = 0; applies = input ≢ wanted }
-    ∷ record { number = 3; detail = 0; applies = room < size }
-    ∷ []
-
--- r is the number of the first that applies, and 0 where none does.
-abbrev pub FirstNumber : ℕ → ℕ → ℕ → ℕ → ℕ → ℕ → Type 0
-FirstNumber n input wanted room size r =
-    First (early-checks n input wanted room size) (λ c. plain r 0 ≡ plain (c .number) (c .detail)) (r ≡ 0)
 
 -- ## Rows
 

@@ -8,13 +8,12 @@ ghost use lib.ListN.{length, getD};
 ghost use Rattle.code.specs.Record.{track-length};
 ghost use Rattle.code.specs.Image.{image-size, cells};
 ghost use Rattle.code.specs.Sizes.{shape, Small};
-ghost use Rattle.code.specs.Calls.{Encoded, WasRead, Viewed};
+ghost use Rattle.code.specs.Contracts.{Encoded, WasRead, Viewed};
 ghost use Rattle.code.specs.Answers.{result-of};
 ghost use Rattle.track.specs.Track.{Bits};
 ghost use Rattle.syndrome.specs.Syndrome.{Image, Tested};
 ghost use Rattle.syndrome.specs.Steps.{Rows, cells-of};
 ghost use Rattle.codec.specs.Steps.{
-  FirstNumber,
   Sized,
   Column,
   DataNumber,
@@ -28,25 +27,6 @@ ghost use Rattle.codec.specs.Steps.{
   ChecksPut,
   GoodRecord,
 };
-
-// The first of the numbers 1 to 3 that applies, or 0: for the block count, the input's length and the room for the result.
-fn first_number(blocks: u32, input: usize, wanted: usize, room: usize, size: usize) -> u32
-    ensures { λ r. ⌜ FirstNumber blocks input wanted room size r ⌝ }
-{
-    if blocks == 0 {
-        return 1;
-    }
-    if 256 < blocks {
-        return 1;
-    }
-    if input != wanted {
-        return 2;
-    }
-    if room < size {
-        return 3;
-    }
-    0
-}
 
 // The number of the track along which byte p of each block goes.
 fn data_number(z: Sizes, p: usize) -> usize
@@ -171,9 +151,9 @@ pub fn encode(blocks: u32, payload: &[u8], out: &mut [u8]) -> Answer
 {
     let n = blocks as usize;
     let size = 18 * (8 * n + 15);
-    let number = first_number(blocks, payload.len(), n * 14, out.len(), size);
-    if number != 0 {
-        return plain_answer(number, 0);
+    let first = checks::check_sizes(blocks, payload.len(), n * 14, out.len(), size);
+    if first.number != 0 {
+        return first;
     }
     let z = Sizes {
         t1: 7,
@@ -234,13 +214,9 @@ pub fn read(blocks: u32, image: &[u8], out: &mut [u8]) -> Answer
     ensures { λ r. ⌜ WasRead blocks (now (image .entry)) (now (out .entry)) (result-of r) (now (out .exit)) ⌝ }
 {
     let n = blocks as usize;
-    let number = first_number(blocks, image.len(), 18 * (8 * n + 15), out.len(), n * 14);
-    if number != 0 {
-        return plain_answer(number, 0);
-    }
-    let bad = track::first_bad_cell(image);
-    if bad < image.len() {
-        return plain_answer(4, bad as u32);
+    let first = checks::check_image(blocks, image, 18 * (8 * n + 15), out.len(), n * 14);
+    if first.number != 0 {
+        return first;
     }
     let z = Sizes {
         t1: 7,
@@ -256,15 +232,18 @@ pub fn read(blocks: u32, image: &[u8], out: &mut [u8]) -> Answer
 
 // ---- Track view
 
-// Track view: the stretch of track number g of the caller's own image, or an empty part. A track number above 17 is refused as a result
-// without room is.
+// Track view: the stretch of track number g of the caller's own image, or an empty part.
 pub fn view(blocks: u32, image: &[u8], g: u32) -> &[u8]
     ensures { λ r. ⌜ Viewed blocks (now (image .entry)) g (now r) ⌝ }
 {
     let n = blocks as usize;
     let l = 8 * n + 15;
     let track = g as usize;
-    if first_number(blocks, image.len(), 18 * l, 17, track) != 0 {
+    let first = checks::check_input(blocks, image.len(), 18 * l);
+    if first.number != 0 {
+        return &image[0..0];
+    }
+    if 18 <= track {
         return &image[0..0];
     }
     let start = track * l;

@@ -1,81 +1,75 @@
--- The calls: their checks, and the part of the output that is worked on.
-use mathlib.Core.Path.{_≡_, refl, sym, ap, _∙_}
-use mathlib.Core.Logic.{_≢_, inl, inr, by-cases}
+-- The calls: their checks, the part of the output that is worked on, and marks in place of flags.
+use mathlib.Core.Path.{_≡_, refl, sym, subst, _∙_}
+use mathlib.Core.Logic.{_≢_, inl, inr}
 use mathlib.Core.List.{List, [], _∷_, _++_}
-use Prim.Native.Nat.{ℕ, _+_, _*_, _-_, _<_, _≤_}
-use native.Mathlib.Decide.{decLe, decLt, ℕ-discrete}
+use Prim.Native.Nat.{ℕ, _*_, _≤_}
 use native.Mathlib.Omega.{arith}
-use lib.ListN.{length, getD, take, drop, length-append, length-drop, List·getD-eq-default, List·getD-append}
-use lib.Seq.{getD-drop, getD-append-add, length-take-le}
+use lib.ListN.{length, take, drop}
+use lib.Seq.{length-take-le}
 use Rattle.code.specs.Record.{TrackSet, base, Shape, tracks, Cells, Same}
 use Rattle.code.specs.Image.{image-size, cells}
-use Rattle.code.specs.Flags.{CellFlags, word-flags, AgreeOff}
+use Rattle.code.specs.Flags.{TrackFlags, CellFlags, whole, word-flags, AgreeOff}
 use Rattle.code.specs.Reach.{flags-code, Extra, none}
-use Rattle.code.specs.Numbers.{Check, reach-check, First, Passed, first-bad}
-use Rattle.code.specs.Calls.{Result, plain, Refused, Stays, Mended, RepairNear, Repaired, TraceNear, trace-named, Traced}
+use Rattle.code.specs.Numbers.{Check, image-checks, flag-check, reach-check, Passed}
+use Rattle.code.specs.Calls.{
+  Result,
+  plain,
+  Refused,
+  Answered,
+  mended,
+  Mended,
+  early-checks,
+  repair-checks,
+  RepairNear,
+  Repairs,
+  TraceNear,
+  trace-named,
+  Traces,
+}
+use Rattle.code.specs.Contracts.{Repaired, Traced}
+use Rattle.code.specs.Sizes.{Small}
 use Rattle.code.specs.declared.Sizes.{Sizes}
 use Rattle.code.proofs.Changed.{changed-extra-same, mended-same}
+use Rattle.code.proofs.Front.{front-at, front-same, front-stays}
 use Rattle.code.proofs.Linear.{good-same}
-use Rattle.code.proofs.Numbers.{first-passed, first-bad-before, unrefused}
-use Rattle.code.proofs.Places.{cell-lt}
-use Rattle.repair.specs.Steps.{early-checks, Checked, Given}
+use Rattle.code.proofs.Numbers.{first-after, passed-both}
+use Rattle.solver.specs.Solver.{marked}
+use Rattle.checks.specs.First.{FirstAnswer}
+use Rattle.checks.proofs.Refusing.{refuses-call, passes, ImageRight, image-right}
+use Rattle.repair.specs.Steps.{Marks, Given}
+use Rattle.repair.proofs.Flagging.{SameFlags, marks-same, code-same, agree-same, reach-same, named-same}
 
 -- ## Checks
 
--- What the rest says may be said in other words.
-first-map : (cs : List {1} Check) (right : Check → Type 0) (r r′ : Type 0) → (r → r′) → First cs right r → First cs right r′
-first-map [] right r r′ h f = h f
-first-map (c ∷ cs) right r r′ h (inl a) = inl a
-first-map (c ∷ cs) right r r′ h (inr a) = inr (a .0, first-map cs right r r′ h (a .1))
+module _ (sh : Shape) (n word : ℕ) (f : TrackFlags) (image out : List ℕ) (done : Result → List ℕ → Type 0) (r : Result) where
+  abbrev early : List {1} Check
+  early = early-checks sh n word image (length out)
+
+  -- A number of the first five.
+  pub refused : FirstAnswer early r → r .answer ≢ 0 → Answered (repair-checks sh n word f image out) done out r out
+  refused = refuses-call early (reach-check sh f ∷ []) r done out
+
+  module _ (p : Passed early) where
+    -- 6: the code is 0.
+    pub refused-code : flags-code sh f ≡ 0 → r ≡ plain 6 0 → Answered (repair-checks sh n word f image out) done out r out
+    refused-code c e = first-after early (reach-check sh f ∷ []) (Refused r out out) (done r out) p (inl (c, record { result = e; output = refl }))
+
+    -- Where the code is not 0, what is done is left to say.
+    pub called : flags-code sh f ≢ 0 → (after : List ℕ) → done r after → Answered (repair-checks sh n word f image out) done out r after
+    called c after d = first-after early (reach-check sh f ∷ []) (Refused r out after) (done r after) p (inr (c, d))
+
+-- With 0 none of the first five applies.
+pub passed : (sh : Shape) (n word : ℕ) (image : List ℕ) (room : ℕ) (r : Result) → FirstAnswer (early-checks sh n word image room) r → r .answer ≡ 0 →
+    Passed (early-checks sh n word image room)
+passed sh n word image room r = passes (early-checks sh n word image room) r (λ e. omega arith, (λ e. omega arith, (λ e. omega arith, (λ e. omega arith, (λ e. omega arith, tt)))))
+
+pub right : (sh : Shape) (n word : ℕ) (image : List ℕ) (room : ℕ) → Passed (early-checks sh n word image room) → ImageRight n (image-size sh) image (image-size sh) room
+right sh n word image room p = image-right n (image-size sh) image (image-size sh) room
+    (passed-both (image-checks n (image-size sh) image (image-size sh) room) (flag-check sh word ∷ []) p .0)
 
 -- The sizes of a call.
 abbrev pub sizes : ℕ → Sizes
 sizes n = record { t1 = 7; t2 = 7; positions = 8 * n }
-
-module _ (n flags : ℕ) (image out : List ℕ) (r : Result) (checked : Checked n flags image (length out) r) where
-  -- A number other than 0 is that of a check.
-  pub refused : r .answer ≢ 0 → (rest : Type 0) → First (early-checks n flags image out) (Refused r out out) rest
-  refused d rest = first-map (early-checks n flags image out) (Refused r out out) _ rest (λ e. absurd (d (ap (λ (q : Result). q .answer) e))) (checked .first out refl)
-
-  -- 0: no check applies.
-  pub passed : r .answer ≡ 0 → Passed (early-checks n flags image out)
-  passed e = unrefused (early-checks n flags image out) r out out _ 0 (λ z. omega arith, (λ z. omega arith, (λ z. omega arith, (λ z. omega arith, (λ z. omega arith, tt)))))
-      (checked .first out refl) e .passed
-
-module _ (n flags : ℕ) (image out : List ℕ) (p : Passed (early-checks n flags image out)) where
-  abbrev size : ℕ
-  size = image-size (base n)
-
-  -- The output has room.
-  pub room : size ≤ length out
-  room = by-cases (decLe size (length out)) (λ h. h) (λ d. absurd (p .1 .1 .0 (omega arith)))
-
-  -- The image has its size.
-  length-is : length image ≡ size
-  length-is = by-cases (ℕ-discrete (length image) size) (λ e. e) (λ d. absurd (p .1 .0 d))
-
-  -- Its cells are bits.
-  bits : (i : ℕ) → getD image i 0 < 2
-  bits i = by-cases (decLt i (first-bad image)) (first-bad-before image i) (λ d.
-      rw (List·getD-eq-default image 0 {n = i} (by-cases (decLe (length image) i) (λ h. h) (λ e. absurd (p .1 .1 .1 .0 (omega arith))))) (omega arith))
-
-  -- What the work on the record asks.
-  pub passed-given : flags-code (base n) (word-flags (base n) flags) ≢ 0 → Given (sizes n) flags image (take size out)
-  passed-given c = record {
-    small = record {
-      t1-small = omega arith;
-      t2-small = omega arith;
-      positions-small = by-cases (decLe n 256) (λ h. omega arith) (λ d. absurd (p .0 (inr (omega arith))));
-    };
-    image-is = record { size = length-is; bits = bits };
-    out-has = length-take-le size out room;
-    coded = c;
-  }
-
-  -- 6: the code is 0.
-  pub refused-code : (r : Result) → r ≡ plain 6 0 → flags-code (base n) (word-flags (base n) flags) ≡ 0 → (rest : Type 0) →
-      First (early-checks n flags image out) (Refused r out out) (First (reach-check (base n) flags ∷ []) (Refused r out out) rest)
-  refused-code r e c rest = first-passed (early-checks n flags image out) (Refused r out out) _ p (inl (c, record { result = e; output = refl }))
 
 -- ## The output
 
@@ -83,79 +77,131 @@ module _ (sh : Shape) (image out part : List ℕ) (room : image-size sh ≤ leng
   abbrev all : List ℕ
   all = part ++ drop (image-size sh) out
 
-  -- The first bytes are the part's.
-  first-bytes : (i : ℕ) → i < image-size sh → getD all i 0 ≡ getD part i 0
-  first-bytes i h = List·getD-append part (drop (image-size sh) out) 0 i (omega arith)
-
-  -- So are the cells.
-  all-cells : Same sh (cells sh part) (cells sh all)
-  all-cells = record { cell = λ s t m l b. sym (first-bytes _ (cell-lt sh s t m l b)) }
+  part-cells : Same sh (cells sh part) (cells sh all)
+  part-cells = front-same sh out part size room
 
   -- A record is the same as itself.
   image-cells : Same sh (cells sh image) (cells sh image)
   image-cells = record { cell = λ s t m l b. refl }
 
-  -- Later bytes stay.
-  all-stays : Stays (image-size sh) out all
-  all-stays = record {
-    lengths = omega (arith, length-append part (drop (image-size sh) out), length-drop (image-size sh) out);
-    later = λ i h.
-        let at : i ≡ length part + (i - image-size sh) = omega arith in
-        let from : image-size sh + (i - image-size sh) ≡ i = omega arith in
-        ap (λ (k : ℕ). getD all k 0) at ∙ getD-append-add part (drop (image-size sh) out) (i - image-size sh) 0
-        ∙ getD-drop (image-size sh) out (i - image-size sh) 0 ∙ ap (λ (k : ℕ). getD out k 0) from;
-  }
-
   -- What is right of the part is right of the whole output.
   mended-all : (near : Cells → Type 0) (named : List ℕ → TrackSet → Extra) → (near (cells sh part) → near (cells sh all)) → ((s : TrackSet) → named part s ≡ named all s) →
       (r : Result) → Mended sh near named image (take (image-size sh) out) r part → Mended sh near named image out r all
   mended-all near named h e r (inl f) = inl (record {
-    good = good-same sh _ _ all-cells (f .good);
+    good = good-same sh _ _ part-cells (f .good);
     reached = h (f .reached);
-    stays = all-stays;
-    result = f .result ∙ mended-same sh _ _ _ _ image-cells all-cells (named part) (named all) e;
+    stays = front-stays (image-size sh) out part size room;
+    result = f .result ∙ mended-same sh _ _ _ _ image-cells part-cells (named part) (named all) e;
   })
   mended-all near named h e r (inr f) = inr (record {
     no-record = f .no-record;
-    copy = λ i l. first-bytes i l ∙ f .copy i l;
-    stays = all-stays;
+    copy = λ i l. front-at (image-size sh) out part size room i l ∙ f .copy i l;
+    stays = front-stays (image-size sh) out part size room;
     result = f .result;
   })
 
   -- Agreement with the part is agreement with the whole.
   agree-all : (flag : CellFlags) (x : Cells) → AgreeOff sh flag x (cells sh part) → AgreeOff sh flag x (cells sh all)
-  agree-all flag x a = record { cell = λ s t m l b e. a .cell s t m l b e ∙ all-cells .cell s t m l b }
+  agree-all flag x a = record { cell = λ s t m l b e. a .cell s t m l b e ∙ part-cells .cell s t m l b }
 
-  -- Of repair.
-  repair-all : (flags : ℕ) (r : Result) → Mended sh (RepairNear sh flags image) (λ _ _. none) image (take (image-size sh) out) r part →
-      Mended sh (RepairNear sh flags image) (λ _ _. none) image out r all
-  repair-all flags = mended-all (RepairNear sh flags image) (λ _ _. none) (agree-all _ _) (λ s. refl)
+  pub repair-all : (flag : CellFlags) (r : Result) → Repairs sh flag image (take (image-size sh) out) r part → Repairs sh flag image out r all
+  repair-all flag = mended-all (RepairNear sh flag image) (λ _ _. none) (agree-all _ _) (λ s. refl)
 
-  -- Of tracing.
-  trace-all : (flags : ℕ) (r : Result) → Mended sh (TraceNear sh flags image) (trace-named sh flags image) image (take (image-size sh) out) r part →
-      Mended sh (TraceNear sh flags image) (trace-named sh flags image) image out r all
-  trace-all flags = mended-all (TraceNear sh flags image) (trace-named sh flags image)
+  pub trace-all : (code : ℕ) (f : TrackFlags) (r : Result) → Traces sh code f image (take (image-size sh) out) r part → Traces sh code f image out r all
+  trace-all code f = mended-all (TraceNear sh code f image) (trace-named sh f image)
       (λ i. record { choice = i .choice; allowed = i .allowed; agree = agree-all _ _ (i .agree) })
-      (λ s. changed-extra-same sh _ _ _ _ image-cells all-cells (word-flags sh flags) s (tracks sh s) (omega arith))
+      (λ s. changed-extra-same sh _ _ _ _ image-cells part-cells f s (tracks sh s) (omega arith))
 
--- ## Where no check applies
+-- ## Flags that say the same
 
-module _ (n flags : ℕ) (image out part : List ℕ) (r : Result) (p : Passed (early-checks n flags image out))
-    (code : flags-code (base n) (word-flags (base n) flags) ≢ 0) (kept : length part ≡ length (take (image-size (base n)) out)) where
-  -- The part has the image's size.
-  own-size : length part ≡ image-size (base n)
-  own-size = kept ∙ length-take-le (image-size (base n)) out (room n flags image out p)
+module _ (sh : Shape) (image before : List ℕ) (r : Result) (after : List ℕ) where
+  -- The same records count as near, and the same extras are named.
+  mended-as : (near near′ : Cells → Type 0) (named named′ : List ℕ → TrackSet → Extra) → ((y : Cells) → near y → near′ y) → ((y : Cells) → near′ y → near y) →
+      ((s : TrackSet) → named after s ≡ named′ after s) → Mended sh near named image before r after → Mended sh near′ named′ image before r after
+  mended-as near near′ named named′ to from e (inl a) = inl (record {
+    good = a .good;
+    reached = to _ (a .reached);
+    stays = a .stays;
+    result = a .result ∙ (λ i. mended sh (cells sh image) (cells sh after) (λ s. e s i));
+  })
+  mended-as near near′ named named′ to from e (inr a) = inr (record {
+    no-record = λ y g n. a .no-record y g (from y n);
+    copy = a .copy;
+    stays = a .stays;
+    result = a .result;
+  })
 
-  -- What is left to say where the code is not 0.
-  mended-call : (after : List ℕ) (rest : Type 0) → rest → First (early-checks n flags image out) (Refused r out after) (First (reach-check (base n) flags ∷ []) (Refused r out after) rest)
-  mended-call after rest m = first-passed (early-checks n flags image out) (Refused r out after) _ p (inr (code, m))
+  module _ (f g : TrackFlags) (same : SameFlags sh f g) where
+    back : SameFlags sh g f
+    back s t l = sym (same s t l)
 
-  -- Repair.
-  pub repaired : Mended (base n) (RepairNear (base n) flags image) (λ _ _. none) image (take (image-size (base n)) out) r part →
-      Repaired n flags image out r (part ++ drop (image-size (base n)) out)
-  repaired m = mended-call _ _ (repair-all (base n) image out part (room n flags image out p) own-size flags r m)
+    pub repairs-as : Repairs sh (whole f) image before r after → Repairs sh (whole g) image before r after
+    repairs-as = mended-as (RepairNear sh (whole f) image) (RepairNear sh (whole g) image) (λ _ _. none) (λ _ _. none)
+        (agree-same sh f g same (cells sh image)) (agree-same sh g f back (cells sh image)) (λ s. refl)
 
-  -- Tracing.
-  pub traced : Mended (base n) (TraceNear (base n) flags image) (trace-named (base n) flags image) image (take (image-size (base n)) out) r part →
-      Traced n flags image out r (part ++ drop (image-size (base n)) out)
-  traced m = mended-call _ _ (trace-all (base n) image out part (room n flags image out p) own-size flags r m)
+    pub traces-as : (code : ℕ) → Traces sh code f image before r after → Traces sh code g image before r after
+    traces-as code = mended-as (TraceNear sh code f image) (TraceNear sh code g image) (trace-named sh f image) (trace-named sh g image)
+        (reach-same sh f g same code (cells sh image)) (reach-same sh g f back code (cells sh image))
+        (λ s. named-same sh f g same (cells sh image) (cells sh after) s (tracks sh s) (omega arith))
+
+-- ## The calls of document 01, by the marks of a flag word
+
+module _ (n word : ℕ) (image : List ℕ) (room : ℕ) (p : Passed (early-checks (base n) n word image room)) where
+  pub small : Small (sizes n)
+  small = record { t1-small = omega arith; t2-small = omega arith; positions-small = omega (arith, right (base n) n word image room p .sizes .few) }
+
+  pub has-room : image-size (base n) ≤ room
+  has-room = right (base n) n word image room p .sizes .fits
+
+module _ (n word : ℕ) (image out : List ℕ) (p : Passed (early-checks (base n) n word image (length out))) (marks : List ℕ) (m : Marks word marks) where
+  abbrev by-marks : TrackFlags
+  by-marks = marked (base n) marks
+
+  abbrev by-word : TrackFlags
+  by-word = word-flags (base n) word
+
+  abbrev size : ℕ
+  size = image-size (base n)
+
+  same : SameFlags (base n) by-marks by-word
+  same = marks-same (sizes n) word marks (small n word image (length out) p) m
+
+  code-is : flags-code (base n) by-marks ≡ flags-code (base n) by-word
+  code-is = code-same (base n) by-marks by-word same
+
+  -- What the work on the record asks.
+  pub given : flags-code (base n) by-marks ≢ 0 → Given (sizes n) marks image (take size out)
+  given c =
+      let i = right (base n) n word image (length out) p in
+      record {
+        small = small n word image (length out) p;
+        image-is = record { size = i .sizes .exact; bits = i .bits };
+        out-has = length-take-le size out (i .sizes .fits);
+        marks-size = m .size;
+        coded = c;
+      }
+
+  module _ (r : Result) where
+    -- 6.
+    pub too-many : flags-code (base n) by-marks ≡ 0 → r ≡ plain 6 0 → (done : Result → List ℕ → Type 0) →
+        Answered (repair-checks (base n) n word by-word image out) done out r out
+    too-many c e done = refused-code (base n) n word by-word image out done r p (sym code-is ∙ c) e
+
+    module _ (code : flags-code (base n) by-marks ≢ 0) (part : List ℕ) (kept : length part ≡ length (take size out)) where
+      coded : flags-code (base n) by-word ≢ 0
+      coded e = code (code-is ∙ e)
+
+      room : size ≤ length out
+      room = has-room n word image (length out) p
+
+      whole-part : length part ≡ size
+      whole-part = kept ∙ length-take-le size out room
+
+      pub repaired : Repairs (base n) (whole by-marks) image (take size out) r part → Repaired n word image out r (part ++ drop size out)
+      repaired d = called (base n) n word by-word image out (Repairs (base n) (whole by-word) image out) r p coded _
+          (repairs-as (base n) image out r _ by-marks by-word same (repair-all (base n) image out part room whole-part (whole by-marks) r d))
+
+      pub traced : Traces (base n) (flags-code (base n) by-marks) by-marks image (take size out) r part → Traced n word image out r (part ++ drop size out)
+      traced d = called (base n) n word by-word image out (Traces (base n) (flags-code (base n) by-word) by-word image out) r p coded _
+          (subst (λ (k : ℕ). Traces (base n) k by-word image out r (part ++ drop size out)) code-is
+          (traces-as (base n) image out r _ by-marks by-word same (flags-code (base n) by-marks) (trace-all (base n) image out part room whole-part (flags-code (base n) by-marks) by-marks r d)))

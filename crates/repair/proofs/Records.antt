@@ -1,5 +1,5 @@
 -- Whole records: what repair and tracing come to.
-use mathlib.Core.Path.{_≡_, refl, sym, ap, ap₂, subst, _∙_}
+use mathlib.Core.Path.{_≡_, refl, sym, ap, ap₂, _∙_}
 use mathlib.Core.Logic.{inl, inr}
 use mathlib.Core.Bool.{Bool, true, false, _||_}
 use mathlib.Core.List.{List}
@@ -10,9 +10,9 @@ use lib.Dec.{eqb}
 use lib.ListN.{length, getD, List·getD-eq-default}
 use Rattle.code.specs.Record.{TrackSet, A, B, Shape, tracks, track-length}
 use Rattle.code.specs.Image.{track-number, image-size, cells}
-use Rattle.code.specs.Flags.{TrackFlags, word-flags}
-use Rattle.code.specs.Reach.{pick, flags-code, none, extra, is, Allowed, InReach}
-use Rattle.code.specs.Calls.{Result, plain, Stays, changed-in, changed-extra, mended, Mended, RepairNear, TraceNear, trace-named}
+use Rattle.code.specs.Flags.{TrackFlags, whole}
+use Rattle.code.specs.Reach.{pick, flags-code, none, extra, is}
+use Rattle.code.specs.Calls.{Result, plain, Stays, changed-in, changed-extra, mended, Repairs, Traces}
 use Rattle.code.specs.Sizes.{shape}
 use Rattle.code.specs.declared.Sizes.{Sizes}
 use Rattle.code.proofs.Codes.{code-within}
@@ -23,7 +23,6 @@ use Rattle.syndrome.specs.Syndrome.{Holds, Kept}
 use Rattle.solver.specs.Solver.{marked}
 use Rattle.repair.specs.declared.Hit.{Hit}
 use Rattle.repair.specs.Steps.{
-  Marks,
   OnlyMarked,
   changed-at,
   named-at,
@@ -41,7 +40,7 @@ use Rattle.repair.specs.Steps.{
   Given,
 }
 use Rattle.repair.proofs.Stretches.{changed-number}
-use Rattle.repair.proofs.Flagging.{SameFlags, marks-same, code-same, agree-same, allowed-same, extras-same, reach-same}
+use Rattle.repair.proofs.Flagging.{agree-same}
 use Rattle.repair.proofs.Choices.{is-other}
 use Rattle.repair.proofs.Working.{copied-all}
 
@@ -78,12 +77,12 @@ fits-names z code f image out a b c n = elim [
 
 -- ## Repair
 
-module _ (z : Sizes) (flags : ℕ) (image out : List ℕ) (given : Given z flags image out) where
+module _ (z : Sizes) (marks image out : List ℕ) (given : Given z marks image out) where
   abbrev sh : Shape
   sh = shape z
 
-  abbrev word : TrackFlags
-  word = word-flags (shape z) flags
+  abbrev f : TrackFlags
+  f = marked (shape z) marks
 
   -- The output after it is copied.
   pub given-copy : (after : List ℕ) → Copied image out after → after ≡ image
@@ -93,109 +92,82 @@ module _ (z : Sizes) (flags : ℕ) (image out : List ℕ) (given : Given z flags
   pub given-kept : (syn : List ℕ) → Holds sh (cells sh image) syn → Kept z image syn
   given-kept syn h = record { small = given .small; image = given .image-is; holds = h }
 
-  module _ (marks : List ℕ) (m : Marks flags marks) where
-    abbrev f : TrackFlags
-    f = marked (shape z) marks
+  -- The marks can be worked with.
+  pub given-workable : (copy syn : List ℕ) → copy ≡ image → Holds sh (cells sh image) syn → Workable z marks image copy syn
+  given-workable copy syn e h = record {
+    kept = given-kept syn h;
+    copy = e;
+    marks-size = omega (arith, given .marks-size, given .small);
+    within = code-within sh f refl (given .coded);
+  }
 
-    -- The marks are the flags.
-    same : SameFlags sh f word
-    same = marks-same z flags marks (given .small) m
-
-    back : SameFlags sh word f
-    back s t l = sym (same s t l)
-
-    -- The marks can be worked with.
-    pub given-workable : (copy syn : List ℕ) → copy ≡ image → Holds sh (cells sh image) syn → Workable z marks image copy syn
-    given-workable copy syn e h = record {
-      kept = given-kept syn h;
-      copy = e;
-      marks-size = omega (arith, m .size, given .small);
-      within = code-within sh f refl (λ z. given .coded (sym (code-same sh f word same) ∙ z));
+  module _ (after : List ℕ) (r : Bool) (w : Worked sh f image after r) where
+    -- Only marked tracks were changed.
+    pub worked-only : r ≡ true → OnlyMarked z marks image after
+    worked-only h = record {
+      small = given .small;
+      marks-size = omega (arith, given .marks-size, given .small);
+      image-has = given .image-is .size;
+      out-has = w .size;
+      agree = w .agree h;
     }
 
-    module _ (after : List ℕ) (r : Bool) (w : Worked sh f image after r) where
-      -- Only marked tracks were changed.
-      pub worked-only : r ≡ true → OnlyMarked z marks image after
-      worked-only h = record {
+    -- Answer 0.
+    pub repair-found : r ≡ true → (answer : Result) → answer ≡ mended-at sh image after 0 0 → Repairs sh (whole f) image out answer after
+    unfolding named-at
+    repair-found h answer e = inl (record {
+      good = w .good h;
+      reached = w .agree h;
+      stays = stays-all (image-size sh) out after (given .out-has) (w .size);
+      result = e;
+    })
+
+    -- Answer 7.
+    pub repair-none : r ≡ false → (answer : Result) → answer ≡ plain 7 0 → Repairs sh (whole f) image out answer after
+    repair-none h answer e = inr (record {
+      no-record = w .no-record h;
+      copy = λ i l. ap (λ (xs : List ℕ). getD xs i 0) (w .back h);
+      stays = stays-all (image-size sh) out after (given .out-has) (w .size);
+      result = e;
+    })
+
+  -- ## Tracing
+
+  module _ (code : ℕ) (code-is : code ≡ flags-code sh f) where
+    -- The tracer can work with them.
+    pub given-traceable : (first : List ℕ) → Holds sh (cells sh image) first → Traceable z code marks image first
+    given-traceable first h = record {
+      kept = given-kept first h;
+      marks-size = given .marks-size;
+      code-is = code-is;
+      coded = λ e. given .coded (sym code-is ∙ e);
+    }
+
+    module _ (after : List ℕ) (r : Hit) (w : Searched z code f image after r) where
+      -- Only flagged tracks and extras were changed.
+      pub searched-only : r .found ≡ true → (wide : List ℕ) → Widened sh marks (choice-at (r .a) (r .b)) wide → OnlyMarked z wide image after
+      searched-only h wide e = record {
         small = given .small;
-        marks-size = omega (arith, m .size, given .small);
+        marks-size = omega (arith, e .size, given .marks-size, given .small);
         image-has = given .image-is .size;
         out-has = w .size;
-        agree = w .agree h;
+        agree = agree-same sh _ _ (λ s t l. sym (e .flags s t l)) _ _ (w .fits h .agree);
       }
 
       -- Answer 0.
-      pub repair-found : r ≡ true → (answer : Result) → answer ≡ mended-at sh image after 0 0 →
-          Mended sh (RepairNear sh flags image) (λ _ _. none) image out answer after
-      unfolding named-at
-      repair-found h answer e = inl (record {
-        good = w .good h;
-        reached = agree-same sh f word same _ _ (w .agree h);
+      pub trace-found : r .found ≡ true → (answer : Result) → answer ≡ mended-at sh image after (r .a) (r .b) → Traces sh code f image out answer after
+      trace-found h answer e = inl (record {
+        good = w .fits h .good;
+        reached = record { choice = choice-at (r .a) (r .b); allowed = w .fits h .allowed; agree = w .fits h .agree };
         stays = stays-all (image-size sh) out after (given .out-has) (w .size);
-        result = e;
+        result = e ∙ (λ i. mended sh (cells sh image) (cells sh after) (λ s. fits-names z code f image after (r .a) (r .b) (w .is-choice h) (w .fits h) s i));
       })
 
       -- Answer 7.
-      pub repair-none : r ≡ false → (answer : Result) → answer ≡ plain 7 0 → Mended sh (RepairNear sh flags image) (λ _ _. none) image out answer after
-      repair-none h answer e = inr (record {
-        no-record = λ y g n. w .no-record h y g (agree-same sh word f back _ _ n);
+      pub trace-none : r .found ≡ false → (answer : Result) → answer ≡ plain 7 0 → Traces sh code f image out answer after
+      trace-none h answer e = inr (record {
+        no-record = w .no-record h;
         copy = λ i l. ap (λ (xs : List ℕ). getD xs i 0) (w .back h);
         stays = stays-all (image-size sh) out after (given .out-has) (w .size);
         result = e;
       })
-
-    -- ## Tracing
-
-    module _ (code : ℕ) (code-is : code ≡ flags-code sh word) where
-      -- The tracer can work with them.
-      pub given-traceable : (first : List ℕ) → Holds sh (cells sh image) first → Traceable z code marks image first
-      given-traceable first h = record {
-        kept = given-kept first h;
-        marks-size = m .size;
-        code-is = code-is ∙ sym (code-same sh f word same);
-        coded = λ e. given .coded (sym code-is ∙ e);
-      }
-
-      module _ (after : List ℕ) (r : Hit) (w : Searched z code f image after r) where
-        -- The choice fits by the flag word too.
-        fits : r .found ≡ true → Fits sh code word image (choice-at (r .a) (r .b)) (cells sh after)
-        fits h = let n = w .fits h in record {
-          good = n .good;
-          allowed = allowed-same sh f word same code _ (n .allowed);
-          agree = agree-same sh _ _ (extras-same sh f word same (choice-at (r .a) (r .b))) _ _ (n .agree);
-        }
-
-        -- Only flagged tracks and extras were changed.
-        pub searched-only : r .found ≡ true → (wide : List ℕ) → Widened sh marks (choice-at (r .a) (r .b)) wide → OnlyMarked z wide image after
-        searched-only h wide e = record {
-          small = given .small;
-          marks-size = omega (arith, e .size, m .size, given .small);
-          image-has = given .image-is .size;
-          out-has = w .size;
-          agree = agree-same sh _ _ (λ s t l. sym (e .flags s t l)) _ _ (w .fits h .agree);
-        }
-
-        -- Answer 0.
-        pub trace-found : r .found ≡ true → (answer : Result) → answer ≡ mended-at sh image after (r .a) (r .b) →
-            Mended sh (TraceNear sh flags image) (trace-named sh flags image) image out answer after
-        trace-found h answer e = inl (record {
-          good = fits h .good;
-          reached = record {
-            choice = choice-at (r .a) (r .b);
-            allowed = subst (λ (k : ℕ). Allowed sh k word (choice-at (r .a) (r .b))) code-is (fits h .allowed);
-            agree = fits h .agree;
-          };
-          stays = stays-all (image-size sh) out after (given .out-has) (w .size);
-          result = e ∙ (λ i. mended sh (cells sh image) (cells sh after) (λ s. fits-names z code word image after (r .a) (r .b) (w .is-choice h) (fits h) s i));
-        })
-
-        -- Answer 7.
-        pub trace-none : r .found ≡ false → (answer : Result) → answer ≡ plain 7 0 →
-            Mended sh (TraceNear sh flags image) (trace-named sh flags image) image out answer after
-        trace-none h answer e = inr (record {
-          no-record = λ y g n. w .no-record h y g
-              (subst (λ (k : ℕ). InReach sh k f (cells sh image) y) (sym code-is) (reach-same sh word f back _ _ _ n));
-          copy = λ i l. ap (λ (xs : List ℕ). getD xs i 0) (w .back h);
-          stays = stays-all (image-size sh) out after (given .out-has) (w .size);
-          result = e;
-        })

@@ -2,16 +2,15 @@
 use mathlib.Core.Path.{_≡_}
 use mathlib.Core.Logic.{_≢_}
 use mathlib.Core.Bool.{Bool, true, false}
-use mathlib.Core.List.{List, [], _∷_}
+use mathlib.Core.List.{List}
 use Prim.Native.Nat.{ℕ, zero, suc, _+_, _*_, _/_, _%_, _^_, _<_, _≤_}
 use lib.Dec.{eqb}
 use lib.ListN.{length, getD}
-use Rattle.code.specs.Record.{TrackSet, A, B, Shape, base, tracks, track-length, Cells, sum, Good}
+use Rattle.code.specs.Record.{TrackSet, A, B, Shape, tracks, track-length, Cells, sum, Good}
 use Rattle.code.specs.Image.{all-tracks, image-size, cells}
-use Rattle.code.specs.Flags.{TrackFlags, whole, bit, word-flags, AgreeOff, Within}
+use Rattle.code.specs.Flags.{TrackFlags, whole, bit, AgreeOff, Within}
 use Rattle.code.specs.Reach.{pick, flags-code, Extra, none, extra, Choice, Allowed, with-extras, InReach}
-use Rattle.code.specs.Numbers.{Check, count-check, length-check, room-check, cell-check, flag-check, First}
-use Rattle.code.specs.Calls.{Result, plain, Refused, differ, changed-cells, changed-mask, mended}
+use Rattle.code.specs.Calls.{Result, differ, changed-cells, changed-mask, mended}
 use Rattle.code.specs.Sizes.{shape, Small}
 use Rattle.code.specs.declared.Sizes.{Sizes}
 use Rattle.syndrome.specs.Syndrome.{Image, Kept}
@@ -26,29 +25,14 @@ pub record Marks (flags : ℕ) (marks : List ℕ) : Type 0 where
   pub size : length marks ≡ 18
   pub marks-at : (g : ℕ) → g < 18 → getD marks g 0 ≡ flags / 2 ^ g % 2
 
--- The flags among the lowest n bits of a word.
-abbrev pub flags-in : ℕ → ℕ → ℕ
-flags-in word n = sum n (λ t. bit (eqb (word / 2 ^ t % 2) 1))
+-- What a mark counts.
+pub record Counts (x r : ℕ) : Type 0 where
+  pub is : r ≡ bit (eqb x 1)
+  pub small : r ≤ 1
 
--- r is the code of a flag word.
-pub record Coded (flags r : ℕ) : Type 0 where
-  pub is : (n : ℕ) → r ≡ flags-code (base n) (word-flags (base n) flags)
-
--- ## Checks
-
--- The checks of both calls but for the last, that of the code.
-abbrev pub early-checks : ℕ → ℕ → List ℕ → List ℕ → List {1} Check
-early-checks n flags image before =
-    count-check n
-    ∷ length-check (image-size (base n)) image
-    ∷ room-check (image-size (base n)) before
-    ∷ cell-check image
-    ∷ flag-check (base n) flags
-    ∷ []
-
--- The first of them that applies says what is right; 0 where none does. `room` is the output's length.
-pub record Checked (n flags : ℕ) (image : List ℕ) (room : ℕ) (r : Result) : Type 0 where
-  pub first : (before : List ℕ) → length before ≡ room → First (early-checks n flags image before) (Refused r before before) (r ≡ plain 0 0)
+-- The marked tracks among n from track number `first` on.
+abbrev pub marks-in : List ℕ → ℕ → ℕ → ℕ
+marks-in marks first n = sum n (λ t. bit (eqb (getD marks (first + t) 0) 1))
 
 -- ## Changed cells
 
@@ -186,9 +170,10 @@ mended-at sh image out a b = mended sh (cells sh image) (cells sh out) (names-at
 
 -- ## Whole records
 
--- An image of bits, an output of its size, and flags that have a code.
-pub record Given (z : Sizes) (flags : ℕ) (image out : List ℕ) : Type 0 where
+-- An image of bits, an output of its size, and marks that have a code.
+pub record Given (z : Sizes) (marks image out : List ℕ) : Type 0 where
   pub small : Small z
   pub image-is : Image (shape z) image
   pub out-has : length out ≡ image-size (shape z)
-  pub coded : flags-code (shape z) (word-flags (shape z) flags) ≢ 0
+  pub marks-size : length marks ≡ 18
+  pub coded : flags-code (shape z) (marked (shape z) marks) ≢ 0

@@ -6,17 +6,20 @@ use code::plain_answer;
 ghost use mathlib.Core.Path.{_≡_};
 ghost use Prim.Native.Nat.{_+_, _≤_};
 ghost use lib.ListN.{length};
-ghost use Rattle.code.specs.Reach.{none, size, flags-code};
-ghost use Rattle.code.specs.Flags.{word-flags};
-ghost use Rattle.code.specs.Calls.{Mended, RepairNear, Repaired, TraceNear, trace-named, Traced};
+ghost use Rattle.code.specs.Record.{base};
+ghost use Rattle.code.specs.Image.{all-tracks};
+ghost use Rattle.code.specs.Flags.{whole};
+ghost use Rattle.code.specs.Reach.{size, flags-code};
+ghost use Rattle.code.specs.Calls.{early-checks, Repairs, Traces};
+ghost use Rattle.code.specs.Contracts.{Repaired, Traced};
 ghost use Rattle.code.specs.Answers.{extra-of, result-of};
-ghost use Rattle.code.specs.Sizes.{shape};
+ghost use Rattle.code.specs.Sizes.{shape, Small};
+ghost use Rattle.checks.specs.First.{FirstAnswer};
 ghost use Rattle.solver.specs.Solver.{marked};
 ghost use Rattle.repair.specs.Steps.{
   Marks,
-  flags-in,
-  Coded,
-  Checked,
+  Counts,
+  marks-in,
   HasTrack,
   changed-at,
   OnlyMarked,
@@ -57,50 +60,47 @@ fn marks_of(flags: u32) -> [u8; 18]
     marks
 }
 
-// The flags among the lowest n bits of a word.
-fn count_flags(word: u32, n: usize) -> usize
-    ensures { λ r. ⌜ r ≡ flags-in word n ⌝ }
+// What a mark counts.
+fn mark(x: u8) -> usize
+    ensures { λ r. ⌜ Counts x r ⌝ }
+{
+    if x == 1 { 1 } else { 0 }
+}
+
+// The marked tracks among n from track number `first` on.
+fn count_marks(marks: &[u8], first: usize, n: usize) -> usize
+    requires { ⌜ first + n ≤ length (now marks) ⌝ }
+    ensures { λ r. ⌜ r ≡ marks-in (now (marks .entry)) first n ⌝ }
 {
     let mut count: usize = 0;
-    let mut rest = word;
     let mut t = 0;
     while t < n {
-        count += (rest % 2) as usize;
-        rest = rest / 2;
+        count += mark(marks[first + t]);
         t += 1;
     }
     count
 }
 
-// The code of a flag word, 9 flags a set.
-fn code_of(flags: u32) -> u8
-    ensures { λ r. ⌜ Coded flags r ⌝ }
+// The code of the marked tracks.
+fn code_of(z: Sizes, marks: &[u8]) -> u8
+    requires { ⌜ Small z ⌝ }
+    requires { ⌜ all-tracks (shape z) ≤ length (now marks) ⌝ }
+    ensures { λ r. ⌜ r ≡ flags-code (shape z) (marked (shape z) (now (marks .entry))) ⌝ }
 {
-    code::reach(count_flags(flags, 9), count_flags(flags / 512, 9))
+    let a = z.t1 + 2;
+    code::reach(count_marks(marks, 0, a), count_marks(marks, a, z.t2 + 2))
 }
 
 // ---- Checks
 
 // The number of a call that is refused before its flags are counted, and 0 of one that is not.
 fn check(blocks: u32, flags: u32, image: &[u8], room: usize) -> Answer
-    ensures { λ r. ⌜ Checked blocks flags (now (image .entry)) room (result-of r) ⌝ }
+    ensures { λ r. ⌜ FirstAnswer (early-checks (base blocks) blocks flags (now (image .entry)) room) (result-of r) ⌝ }
 {
-    if blocks == 0 {
-        return plain_answer(1, 0);
-    }
-    if 256 < blocks {
-        return plain_answer(1, 0);
-    }
     let size = 18 * (8 * blocks as usize + 15);
-    if image.len() != size {
-        return plain_answer(2, 0);
-    }
-    if room < size {
-        return plain_answer(3, 0);
-    }
-    let bad = track::first_bad_cell(image);
-    if bad < size {
-        return plain_answer(4, bad as u32);
+    let first = checks::check_image(blocks, image, size, room, size);
+    if first.number != 0 {
+        return first;
     }
     if 262144 <= flags {
         return plain_answer(5, 0);
@@ -231,12 +231,11 @@ fn work(z: Sizes, marks: &[u8], image: &[u8], out: &mut [u8], syn: &mut [u8]) ->
 }
 
 // Repairs into the output, of the image's size.
-fn repair_record(z: Sizes, flags: u32, image: &[u8], out: &mut [u8]) -> Answer
-    requires { ⌜ Given z flags (now image) (now out) ⌝ }
-    ensures { λ r. ⌜ Mended (shape z) (RepairNear (shape z) flags (now (image .entry))) (λ _ _. none) (now (image .entry)) (now (out .entry)) (result-of r) (now (out .exit)) ⌝ }
+fn repair_record(z: Sizes, marks: [u8; 18], image: &[u8], out: &mut [u8]) -> Answer
+    requires { ⌜ Given z marks (now image) (now out) ⌝ }
+    ensures { λ r. ⌜ Repairs (shape z) (whole (marked (shape z) marks)) (now (image .entry)) (now (out .entry)) (result-of r) (now (out .exit)) ⌝ }
 {
     let l = z.positions + (z.t1 + z.t2 + 1);
-    let marks = marks_of(flags);
     track::copy_into(out, image);
     let mut room = [0u8; 8252];
     let syn = &mut room[..4 * l];
@@ -255,16 +254,18 @@ pub fn repair(blocks: u32, flags: u32, image: &[u8], out: &mut [u8]) -> Answer
     if refused.number != 0 {
         return refused;
     }
-    if code_of(flags) == 0 {
-        return plain_answer(6, 0);
-    }
     let n = blocks as usize;
     let z = Sizes {
         t1: 7,
         t2: 7,
         positions: 8 * n,
     };
-    repair_record(z, flags, image, &mut out[..18 * (8 * n + 15)])
+    let marks = marks_of(flags);
+    let code = code_of(z, &marks);
+    if code == 0 {
+        return plain_answer(6, 0);
+    }
+    repair_record(z, marks, image, &mut out[..18 * (8 * n + 15)])
 }
 
 // ---- Choices of extras
@@ -410,13 +411,12 @@ fn search(
 }
 
 // Traces into the output, of the image's size.
-fn trace_record(z: Sizes, code: u8, flags: u32, image: &[u8], out: &mut [u8]) -> Answer
-    requires { ⌜ Given z flags (now image) (now out) ⌝ }
-    requires { ⌜ code ≡ flags-code (shape z) (word-flags (shape z) flags) ⌝ }
-    ensures { λ r. ⌜ Mended (shape z) (TraceNear (shape z) flags (now (image .entry))) (trace-named (shape z) flags (now (image .entry))) (now (image .entry)) (now (out .entry)) (result-of r) (now (out .exit)) ⌝ }
+fn trace_record(z: Sizes, code: u8, marks: [u8; 18], image: &[u8], out: &mut [u8]) -> Answer
+    requires { ⌜ Given z marks (now image) (now out) ⌝ }
+    requires { ⌜ code ≡ flags-code (shape z) (marked (shape z) marks) ⌝ }
+    ensures { λ r. ⌜ Traces (shape z) code (marked (shape z) marks) (now (image .entry)) (now (out .entry)) (result-of r) (now (out .exit)) ⌝ }
 {
     let l = z.positions + (z.t1 + z.t2 + 1);
-    let marks = marks_of(flags);
     track::copy_into(out, image);
     let mut room = [0u8; 8252];
     let mut spare = [0u8; 8252];
@@ -439,15 +439,16 @@ pub fn trace(blocks: u32, flags: u32, image: &[u8], out: &mut [u8]) -> Answer
     if refused.number != 0 {
         return refused;
     }
-    let code = code_of(flags);
-    if code == 0 {
-        return plain_answer(6, 0);
-    }
     let n = blocks as usize;
     let z = Sizes {
         t1: 7,
         t2: 7,
         positions: 8 * n,
     };
-    trace_record(z, code, flags, image, &mut out[..18 * (8 * n + 15)])
+    let marks = marks_of(flags);
+    let code = code_of(z, &marks);
+    if code == 0 {
+        return plain_answer(6, 0);
+    }
+    trace_record(z, code, marks, image, &mut out[..18 * (8 * n + 15)])
 }

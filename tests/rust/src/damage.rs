@@ -1,9 +1,27 @@
-//! A small generator of random numbers, and the damage that a drive does.
+//! A small generator of random numbers, random records, and the damage that a drive does.
+//! Longer runs: AXP_ROUNDS=5000 (rounds a test) and AXP_SEED=7 (the seed; it is printed).
+
+use crate::second::{encode, Rules, Shape};
+
+fn setting(name: &str, default: u64) -> u64 {
+    std::env::var(name).ok().and_then(|v| v.parse().ok()).unwrap_or(default)
+}
+
+pub fn rounds(default: u64) -> u64 {
+    setting("AXP_ROUNDS", default)
+}
 
 /// SplitMix64: the whole run follows from its seed.
 pub struct Random(pub u64);
 
 impl Random {
+    /// The generator of a test.
+    pub fn of(test: &str) -> Random {
+        let seed = setting("AXP_SEED", 1);
+        println!("{test}: seed {seed}");
+        Random(seed.wrapping_mul(0x1234_5678_9abc_def1) ^ test.len() as u64)
+    }
+
     pub fn next(&mut self) -> u64 {
         self.0 = self.0.wrapping_add(0x9e37_79b9_7f4a_7c15);
         let mut z = self.0;
@@ -21,18 +39,26 @@ impl Random {
     }
 
     /// A word of `count` different tracks.
-    pub fn tracks(&mut self, count: usize) -> u32 {
+    pub fn tracks(&mut self, shape: Shape, count: usize) -> u32 {
         let mut word: u32 = 0;
         while (word.count_ones() as usize) < count {
-            word |= 1 << self.below(18);
+            word |= 1 << self.below(shape.all_tracks());
         }
         word
+    }
+
+    /// A payload and its record.
+    pub fn record(&mut self, rules: &Rules) -> (Vec<u8>, Vec<u8>) {
+        let payload = self.bytes(rules.shape.payload_size());
+        let image = encode(rules, &payload);
+        (payload, image)
     }
 }
 
 /// Damages the tracks of a word: noise, a burst, a single cell, or the tail alone.
-pub fn damage(random: &mut Random, image: &mut [u8], length: usize, tracks: u32) {
-    for g in (0..18).filter(|g| tracks >> g & 1 == 1) {
+pub fn damage(random: &mut Random, shape: Shape, image: &mut [u8], tracks: u32) {
+    let length = shape.length();
+    for g in (0..shape.all_tracks()).filter(|g| tracks >> g & 1 == 1) {
         let (from, to, all) = match random.below(4) {
             0 => (0, length, false),
             1 => {
@@ -43,7 +69,7 @@ pub fn damage(random: &mut Random, image: &mut [u8], length: usize, tracks: u32)
                 let at = random.below(length);
                 (at, at + 1, true)
             }
-            _ => (length - 15, length, false),
+            _ => (shape.positions, length, false),
         };
         for m in from..to {
             if all || random.below(2) == 1 {

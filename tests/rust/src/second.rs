@@ -1,68 +1,132 @@
 //! The second decoder, from document 01's rules and in another way than the library: all rules are written out as
-//! equations over cell indices, and unknown cells are found by peeling (an equation with one unknown cell gives it) or,
-//! for short records, by elimination, which also tells whether there are two solutions.
+//! equations over cell indices, for any shape of record, and unknown cells are found by peeling (an equation with one
+//! unknown cell gives it) and, where that stalls, by elimination, which also tells whether there are two solutions.
 
 use crate::ffi::{Answer, NO_EXTRA};
 use std::collections::HashSet;
 
-pub const TRACKS: usize = 18;
-
-pub fn length(blocks: u32) -> usize {
-    8 * blocks as usize + 15
+/// The closing of the tail: rule 3 carries the vertical tracks through it, or they are 0 there.
+#[derive(Clone, Copy, Debug, PartialEq, Eq)]
+pub enum Closing {
+    Closed,
+    Open,
 }
 
-pub fn size(blocks: u32) -> usize {
-    TRACKS * length(blocks)
+/// What the rules depend on: the data tracks T1 of A and T2 of B, the positions N, and the closing.
+/// Below, set 0 is A and set 1 is B.
+#[derive(Clone, Copy, Debug)]
+pub struct Shape {
+    pub t1: usize,
+    pub t2: usize,
+    pub positions: usize,
+    pub closing: Closing,
+}
+
+impl Shape {
+    /// The shape of document 01.
+    pub fn base(blocks: u32) -> Shape {
+        Shape { t1: 7, t2: 7, positions: 8 * blocks as usize, closing: Closing::Closed }
+    }
+
+    /// The data tracks of a set are tracks 1 to T; track 0 is its diagonal check track, track T + 1 its vertical one.
+    pub fn data_tracks(&self, set: usize) -> usize {
+        [self.t1, self.t2][set]
+    }
+
+    pub fn tracks(&self, set: usize) -> usize {
+        self.data_tracks(set) + 2
+    }
+
+    pub fn all_tracks(&self) -> usize {
+        self.tracks(0) + self.tracks(1)
+    }
+
+    /// The diagonals' lag, and the tail's length.
+    pub fn lag(&self) -> usize {
+        self.t1 + self.t2 + 1
+    }
+
+    pub fn length(&self) -> usize {
+        self.positions + self.lag()
+    }
+
+    pub fn size(&self) -> usize {
+        self.all_tracks() * self.length()
+    }
+
+    pub fn payload_size(&self) -> usize {
+        (self.t1 + self.t2) * (self.positions / 8)
+    }
+
+    pub fn track_number(&self, set: usize, t: usize) -> usize {
+        set * self.tracks(0) + t
+    }
+
+    /// The cell of a set's track t at position m.
+    pub fn index(&self, set: usize, t: usize, m: usize) -> usize {
+        self.track_number(set, t) * self.length() + m
+    }
+
+    /// The word of all tracks of a set.
+    pub fn word(&self, set: usize) -> u32 {
+        ((1 << self.tracks(set)) - 1) << self.track_number(set, 0)
+    }
+
+    /// The cells of the payload's bits, in order: byte after byte, first A's, the most significant bit first.
+    fn data_cells(&self) -> Vec<usize> {
+        let mut cells = Vec::new();
+        for block in 0..self.positions / 8 {
+            for set in 0..2 {
+                for t in 1..=self.data_tracks(set) {
+                    cells.extend((0..8).map(|k| self.index(set, t, 8 * block + k)));
+                }
+            }
+        }
+        cells
+    }
 }
 
 /// The equations of a record: each is a list of cell indices whose sum is 0 modulo 2.
 pub struct Rules {
+    pub shape: Shape,
     pub equations: Vec<Vec<usize>>,
     /// The equations that each cell stands in.
     pub at: Vec<Vec<usize>>,
-    pub length: usize,
 }
 
 impl Rules {
-    pub fn new(blocks: u32) -> Rules {
-        let l = length(blocks);
-        let n = 8 * blocks as usize;
-        let cell = |set: usize, m: usize, t: usize| (9 * set + t) * l + m;
-        let mut equations = Vec::new();
-        for m in 0..l {
-            // Rules 1 and 2: A(m - t, t) + B(m + t - 15, t), and with the sets exchanged.
+    pub fn new(shape: Shape) -> Rules {
+        let lag = shape.lag();
+        // Where rule 3 ends, and whether rule 4 takes in the vertical track.
+        let (vertical_end, vertical_too) = match shape.closing {
+            Closing::Closed => (shape.length(), 0),
+            Closing::Open => (shape.positions, 1),
+        };
+        let mut equations: Vec<Vec<usize>> = Vec::new();
+        for m in 0..shape.length() {
             for set in 0..2 {
-                let mut e = Vec::new();
-                for t in 0..8 {
-                    if m >= t {
-                        e.push(cell(set, m - t, t));
-                    }
-                    if m + t >= 15 {
-                        e.push(cell(1 - set, m + t - 15, t));
-                    }
+                // Rules 1 and 2: the set's own tracks at m - t, the other's at m - (lag - t).
+                let other = 1 - set;
+                let own = (0..=shape.data_tracks(set)).filter(|&t| m >= t).map(|t| shape.index(set, t, m - t));
+                let across = (0..=shape.data_tracks(other)).filter(|&t| m + t >= lag);
+                equations.push(own.chain(across.map(|t| shape.index(other, t, m + t - lag))).collect());
+                // Rule 3.
+                if m < vertical_end {
+                    equations.push((0..shape.tracks(set)).map(|t| shape.index(set, t, m)).collect());
                 }
-                equations.push(e);
-            }
-            // Rule 3.
-            for set in 0..2 {
-                equations.push((0..9).map(|t| cell(set, m, t)).collect());
-            }
-            // Rule 4.
-            if m >= n {
-                for set in 0..2 {
-                    for t in 1..8 {
-                        equations.push(vec![cell(set, m, t)]);
-                    }
+                // Rule 4.
+                if m >= shape.positions {
+                    equations.extend((1..=shape.data_tracks(set) + vertical_too).map(|t| vec![shape.index(set, t, m)]));
                 }
             }
         }
-        let mut at = vec![Vec::new(); TRACKS * l];
+        let mut at = vec![Vec::new(); shape.size()];
         for (i, e) in equations.iter().enumerate() {
             for &c in e {
                 at[c].push(i);
             }
         }
-        Rules { equations, at, length: l }
+        Rules { shape, equations, at }
     }
 
     pub fn is_good(&self, image: &[u8]) -> bool {
@@ -70,27 +134,28 @@ impl Rules {
             && self.equations.iter().all(|e| e.iter().map(|&c| image[c] as usize).sum::<usize>() % 2 == 0)
     }
 
-    fn is_flagged(&self, flags: u32, cell: usize) -> bool {
-        flags >> (cell / self.length) & 1 == 1
+    /// The cells of the flagged tracks.
+    pub fn flagged(&self, flags: u32) -> Vec<bool> {
+        (0..self.shape.size()).map(|c| flags >> (c / self.shape.length()) & 1 == 1).collect()
     }
 
-    /// The good record that equals the image off the flags, by peeling; None where there is none.
-    /// Panics where cells are left over: then the flags were too many.
-    pub fn peel(&self, flags: u32, image: &[u8]) -> Option<Vec<u8>> {
+    /// The good record that equals the image off the unknown cells, by peeling, then elimination if that stalls;
+    /// None where there is none. Panics where there are two: then the unknown cells were too many.
+    pub fn peel(&self, unknown: &[bool], image: &[u8]) -> Option<Vec<u8>> {
         let mut out = image.to_vec();
-        let mut known: Vec<bool> = (0..image.len()).map(|c| !self.is_flagged(flags, c)).collect();
+        let mut left = unknown.to_vec();
         let mut missing: Vec<usize> =
-            self.equations.iter().map(|e| e.iter().filter(|&&c| !known[c]).count()).collect();
+            self.equations.iter().map(|e| e.iter().filter(|&&c| left[c]).count()).collect();
         let mut ready: Vec<usize> = (0..self.equations.len()).filter(|&i| missing[i] == 1).collect();
         while let Some(i) = ready.pop() {
             if missing[i] != 1 {
                 continue;
             }
             let e = &self.equations[i];
-            let cell = *e.iter().find(|&&c| !known[c]).unwrap();
+            let cell = *e.iter().find(|&&c| left[c]).unwrap();
             let sum: u32 = e.iter().filter(|&&c| c != cell).map(|&c| out[c] as u32).sum();
             out[cell] = (sum % 2) as u8;
-            known[cell] = true;
+            left[cell] = false;
             for &j in &self.at[cell] {
                 missing[j] -= 1;
                 if missing[j] == 1 {
@@ -98,67 +163,83 @@ impl Rules {
                 }
             }
         }
-        assert!(known.iter().all(|&k| k), "cells left over with flags {flags:#x}");
-        if self.is_good(&out) {
-            Some(out)
-        } else {
-            None
+        if left.contains(&true) {
+            let (solution, free) = self.eliminate(&left, &out)?;
+            assert!(free == 0, "cells left over, {:?}", self.shape);
+            out = solution;
         }
+        self.is_good(&out).then_some(out)
     }
 
-    /// The dimension of the set of good records that are 0 off the flags: 0 exactly if the flags leave no doubt.
-    pub fn doubt(&self, flags: u32) -> usize {
-        let unknown: Vec<usize> = (0..TRACKS * self.length).filter(|&c| self.is_flagged(flags, c)).collect();
-        let mut place = vec![usize::MAX; TRACKS * self.length];
-        for (k, &c) in unknown.iter().enumerate() {
-            place[c] = k;
+    /// The dimension of the set of good records that are 0 off the unknown cells: 0 exactly if these leave no doubt.
+    pub fn doubt(&self, unknown: &[bool]) -> usize {
+        let (_, free) = self.eliminate(unknown, &vec![0; unknown.len()]).expect("the record of zeros");
+        free
+    }
+
+    /// The equations solved for the unknown cells, the others as in the image: one solution and the dimension of all,
+    /// or None.
+    fn eliminate(&self, unknown: &[bool], image: &[u8]) -> Option<(Vec<u8>, usize)> {
+        let cells: Vec<usize> = (0..unknown.len()).filter(|&c| unknown[c]).collect();
+        // Each unknown cell has a column; the last column is the sum of the known cells.
+        let last = cells.len();
+        let mut column = vec![last; unknown.len()];
+        for (k, &c) in cells.iter().enumerate() {
+            column[c] = k;
         }
-        let words = unknown.len().div_ceil(64).max(1);
+        let bit = |row: &[u64], k: usize| row[k / 64] >> (k % 64) & 1;
         let mut rows: Vec<Vec<u64>> = Vec::new();
         for e in &self.equations {
-            let mut row = vec![0u64; words];
+            let mut row = vec![0u64; last / 64 + 1];
             for &c in e {
-                if place[c] != usize::MAX {
-                    row[place[c] / 64] ^= 1 << (place[c] % 64);
-                }
+                let value = if unknown[c] { 1 } else { image[c] as u64 & 1 };
+                row[column[c] / 64] ^= value << (column[c] % 64);
             }
             if row.iter().any(|&w| w != 0) {
                 rows.push(row);
             }
         }
-        let mut rank = 0;
-        for k in 0..unknown.len() {
-            let (w, b) = (k / 64, 1u64 << (k % 64));
-            let Some(p) = (rank..rows.len()).find(|&i| rows[i][w] & b != 0) else { continue };
+        // Row i, for i below the rank, is the only one with a 1 in column leading[i].
+        let mut leading = Vec::new();
+        for k in 0..last {
+            let rank = leading.len();
+            let Some(p) = (rank..rows.len()).find(|&i| bit(&rows[i], k) == 1) else { continue };
             rows.swap(rank, p);
             let pivot = rows[rank].clone();
             for (i, row) in rows.iter_mut().enumerate() {
-                if i != rank && row[w] & b != 0 {
+                if i != rank && bit(row, k) == 1 {
                     for (x, y) in row.iter_mut().zip(&pivot) {
                         *x ^= y;
                     }
                 }
             }
-            rank += 1;
+            leading.push(k);
         }
-        unknown.len() - rank
+        if rows[leading.len()..].iter().any(|row| bit(row, last) == 1) {
+            return None;
+        }
+        let mut out = image.to_vec();
+        cells.iter().for_each(|&c| out[c] = 0);
+        for (row, &k) in rows.iter().zip(&leading) {
+            out[cells[k]] = bit(row, last) as u8;
+        }
+        Some((out, last - leading.len()))
     }
 
-    /// All good records in reach of the image: document 01's table and every choice of extras.
-    pub fn in_reach(&self, flags: u32, image: &[u8]) -> Vec<Vec<u8>> {
+    /// All good records that differ from the image only in unknown cells and in the tracks of one of the choices.
+    pub fn in_reach(&self, unknown: &[bool], choices: &[u32], image: &[u8]) -> Vec<Vec<u8>> {
         let mut found = HashSet::new();
-        for choice in choices(flags) {
-            if let Some(record) = self.peel(flags | choice, image) {
-                found.insert(record);
-            }
+        for &choice in choices {
+            let cells: Vec<bool> = self.flagged(choice).iter().zip(unknown).map(|(x, y)| x | y).collect();
+            found.extend(self.peel(&cells, image));
         }
         found.into_iter().collect()
     }
 }
 
 /// The table's code for a flag word.
-pub fn code(flags: u32) -> u32 {
-    match ((flags & 0x1ff).count_ones(), (flags >> 9 & 0x1ff).count_ones()) {
+pub fn code(shape: Shape, flags: u32) -> u32 {
+    match ((flags & shape.word(0)).count_ones(), (flags & shape.word(1)).count_ones()) {
         (0, 0) => 5,
         (1, 0) | (0, 1) | (1, 1) => 4,
         (2, 0) => 3,
@@ -169,13 +250,14 @@ pub fn code(flags: u32) -> u32 {
 }
 
 /// The extra tracks that the code allows, as words.
-pub fn choices(flags: u32) -> Vec<u32> {
-    let of = |first: u32| -> Vec<u32> {
-        std::iter::once(0).chain((first..first + 9).map(|g| 1 << g).filter(|b| flags & b == 0)).collect()
+pub fn choices(shape: Shape, flags: u32) -> Vec<u32> {
+    let of = |set: usize| -> Vec<u32> {
+        let tracks = (0..shape.tracks(set)).map(|t| 1 << shape.track_number(set, t));
+        std::iter::once(0).chain(tracks.filter(|b| flags & b == 0)).collect()
     };
-    let (a, b) = match code(flags) {
-        5 | 4 => (of(0), of(9)),
-        3 => (vec![0], of(9)),
+    let (a, b) = match code(shape, flags) {
+        5 | 4 => (of(0), of(1)),
+        3 => (vec![0], of(1)),
         2 => (of(0), vec![0]),
         1 => (vec![0], vec![0]),
         _ => (vec![], vec![]),
@@ -183,7 +265,7 @@ pub fn choices(flags: u32) -> Vec<u32> {
     let mut all = Vec::new();
     for &x in &a {
         for &y in &b {
-            if code(flags) == 5 || x == 0 || y == 0 {
+            if code(shape, flags) == 5 || x == 0 || y == 0 {
                 all.push(x | y);
             }
         }
@@ -192,42 +274,28 @@ pub fn choices(flags: u32) -> Vec<u32> {
 }
 
 /// The good record of a payload: the data cells, then the check tracks by peeling.
-pub fn encode(rules: &Rules, blocks: u32, payload: &[u8]) -> Vec<u8> {
-    let l = length(blocks);
-    let mut image = vec![0u8; TRACKS * l];
-    for b in 0..blocks as usize {
-        for c in 0..14 {
-            let g = if c < 7 { c + 1 } else { 9 + c - 6 };
-            for k in 0..8 {
-                image[g * l + 8 * b + k] = payload[14 * b + c] >> (7 - k) & 1;
-            }
-        }
+pub fn encode(rules: &Rules, payload: &[u8]) -> Vec<u8> {
+    let shape = rules.shape;
+    let mut image = vec![0u8; shape.size()];
+    for (i, c) in shape.data_cells().into_iter().enumerate() {
+        image[c] = payload[i / 8] >> (7 - i % 8) & 1;
     }
-    let checks = 1 | 1 << 8 | 1 << 9 | 1 << 17;
-    rules.peel(checks, &image).expect("each payload has a good record")
+    let of = |set: usize| 1 << shape.track_number(set, 0) | 1 << shape.track_number(set, shape.data_tracks(set) + 1);
+    rules.peel(&rules.flagged(of(0) | of(1)), &image).expect("each payload has a good record")
 }
 
 /// The payload of an image.
-pub fn payload(blocks: u32, image: &[u8]) -> Vec<u8> {
-    let l = length(blocks);
-    let mut out = Vec::new();
-    for b in 0..blocks as usize {
-        for c in 0..14 {
-            let g = if c < 7 { c + 1 } else { 9 + c - 6 };
-            out.push((0..8).fold(0, |v, k| v << 1 | image[g * l + 8 * b + k]));
-        }
-    }
-    out
+pub fn payload(shape: Shape, image: &[u8]) -> Vec<u8> {
+    shape.data_cells().chunks(8).map(|byte| byte.iter().fold(0, |v, &c| v << 1 | image[c])).collect()
 }
 
 /// The changed mask and the number of changed cells.
-pub fn changed(blocks: u32, image: &[u8], out: &[u8]) -> (u32, u32) {
-    let l = length(blocks);
+pub fn changed(shape: Shape, image: &[u8], out: &[u8]) -> (u32, u32) {
     let mut mask = 0;
     let mut cells = 0;
     for i in 0..image.len() {
         if image[i] != out[i] {
-            mask |= 1 << (i / l);
+            mask |= 1 << (i / shape.length());
             cells += 1;
         }
     }
@@ -240,38 +308,50 @@ pub fn number(answer: u32, detail: u32) -> Answer {
 }
 
 /// What document 01 says of repair (extras: false) or tracing: the answer and every byte of the output.
-pub fn expected(rules: &Rules, blocks: u32, flags: u32, image: &[u8], before: &[u8], extras: bool) -> (Answer, Vec<u8>) {
-    if blocks == 0 || blocks > 256 {
-        return (number(1, 0), before.to_vec());
+pub fn expected(rules: &Rules, flags: u32, image: &[u8], before: &[u8], extras: bool) -> (Answer, Vec<u8>) {
+    let shape = rules.shape;
+    let refused = |answer, detail| (number(answer, detail), before.to_vec());
+    if shape.positions == 0 || shape.positions > 8 * 256 {
+        return refused(1, 0);
     }
-    if image.len() != size(blocks) {
-        return (number(2, 0), before.to_vec());
+    if image.len() != shape.size() {
+        return refused(2, 0);
     }
-    if before.len() < size(blocks) {
-        return (number(3, 0), before.to_vec());
+    if before.len() < shape.size() {
+        return refused(3, 0);
     }
     if let Some(i) = image.iter().position(|&x| x > 1) {
-        return (number(4, i as u32), before.to_vec());
+        return refused(4, i as u32);
     }
-    if flags >> 18 != 0 {
-        return (number(5, 0), before.to_vec());
+    if flags >> shape.all_tracks() != 0 {
+        return refused(5, 0);
     }
-    if code(flags) == 0 {
-        return (number(6, 0), before.to_vec());
+    if code(shape, flags) == 0 {
+        return refused(6, 0);
     }
-    let mut after = before.to_vec();
-    let found = if extras { rules.in_reach(flags, image) } else { rules.peel(flags, image).into_iter().collect() };
+    let choices = if extras { choices(shape, flags) } else { vec![0] };
+    reached(rules, &rules.flagged(flags), &choices, image, before)
+}
+
+/// Answer 0 with the good record in reach, or 7 with a copy of the image, and every byte of the output.
+pub fn reached(rules: &Rules, unknown: &[bool], choices: &[u32], image: &[u8], before: &[u8]) -> (Answer, Vec<u8>) {
+    let shape = rules.shape;
+    let found = rules.in_reach(unknown, choices, image);
     assert!(found.len() <= 1, "two records in reach");
-    let Some(record) = found.into_iter().next() else {
+    let mut after = before.to_vec();
+    let Some(record) = found.first() else {
         after[..image.len()].copy_from_slice(image);
         return (number(7, 0), after);
     };
-    after[..image.len()].copy_from_slice(&record);
-    let (mask, cells) = changed(blocks, image, &record);
-    let extra = |set: u32| {
-        let g = (9 * set..9 * set + 9).filter(|g| (mask & !flags) >> g & 1 == 1).collect::<Vec<_>>();
-        assert!(g.len() <= 1);
-        g.first().copied().unwrap_or(NO_EXTRA)
+    after[..image.len()].copy_from_slice(record);
+    let (mask, cells) = changed(shape, image, record);
+    // The extra of a set: the track with a changed cell that was not unknown.
+    let known: Vec<u8> = (0..image.len()).map(|c| if unknown[c] { image[c] } else { record[c] }).collect();
+    let (outside, _) = changed(shape, image, &known);
+    let extra = |set: usize| {
+        let word = outside & shape.word(set);
+        assert!(word.count_ones() <= 1);
+        if word == 0 { NO_EXTRA } else { word.trailing_zeros() }
     };
     (Answer { answer: 0, detail: 0, mask, cells, extra_a: extra(0), extra_b: extra(1) }, after)
 }

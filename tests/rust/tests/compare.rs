@@ -1,22 +1,12 @@
 //! The shipped archive against document 01's examples and against the second decoder.
-//! Longer runs: AXP_ROUNDS=5000 (rounds a test) and AXP_SEED=7 (the seed; it is printed).
 
-use axp_tests::damage::{damage, Random};
+use axp_tests::damage::{damage, rounds, Random};
 use axp_tests::ffi::{self, Answer};
-use axp_tests::second::{self, expected, length, number, size, Rules};
+use axp_tests::second::{self, expected, number, Rules, Shape};
 
-fn setting(name: &str, default: u64) -> u64 {
-    std::env::var(name).ok().and_then(|v| v.parse().ok()).unwrap_or(default)
-}
-
-fn random(test: &str) -> Random {
-    let seed = setting("AXP_SEED", 1);
-    println!("{test}: seed {seed}");
-    Random(seed.wrapping_mul(0x1234_5678_9abc_def1) ^ test.len() as u64)
-}
-
-fn rounds(default: u64) -> u64 {
-    setting("AXP_ROUNDS", default)
+/// The rules of document 01's record.
+fn base(blocks: u32) -> Rules {
+    Rules::new(Shape::base(blocks))
 }
 
 /// An output of some length, filled with bytes that must stay where the document says so.
@@ -35,16 +25,10 @@ fn compare(random: &mut Random, rules: &Rules, blocks: u32, flags: u32, image: &
         } else {
             ffi::repair(blocks, flags, image, &mut out)
         };
-        let (answer, after) = expected(rules, blocks, flags, image, &before, extras);
+        let (answer, after) = expected(rules, flags, image, &before, extras);
         assert_eq!(got, answer, "blocks {blocks}, flags {flags:#x}, extras {extras}");
         assert!(out == after, "output of blocks {blocks}, flags {flags:#x}, extras {extras}");
     }
-}
-
-fn record(random: &mut Random, rules: &Rules, blocks: u32) -> (Vec<u8>, Vec<u8>) {
-    let payload = random.bytes(14 * blocks as usize);
-    let image = second::encode(rules, blocks, &payload);
-    (payload, image)
 }
 
 #[test]
@@ -85,7 +69,7 @@ fn examples() {
     }
     let large = vec![0u8; 37_134];
     let mut room = vec![1u8; 37_134];
-    assert_eq!(size(256), 37_134);
+    assert_eq!(Shape::base(256).size(), 37_134);
     assert_eq!(ffi::repair(256, 0, &large, &mut room), number(0, 0));
     assert_eq!(room, large);
     // Cell value 2 first at index 40.
@@ -99,10 +83,10 @@ fn examples() {
 
 #[test]
 fn every_block_count() {
-    let mut random = random("every block count");
+    let mut random = Random::of("every block count");
     for blocks in 1..=256 {
-        let rules = Rules::new(blocks);
-        let (payload, image) = record(&mut random, &rules, blocks);
+        let rules = base(blocks);
+        let (payload, image) = random.record(&rules);
         let before = output(&mut random, image.len() + 3);
         let mut out = before.clone();
         assert_eq!(ffi::encode(blocks, &payload, &mut out), number(0, 0));
@@ -111,30 +95,30 @@ fn every_block_count() {
         let mut out = before.clone();
         assert_eq!(ffi::read(blocks, &image, &mut out), number(0, 0));
         assert!(out[..payload.len()] == payload[..] && out[payload.len()..] == before[payload.len()..]);
-        let flags = random.tracks(3);
+        let flags = random.tracks(rules.shape, 3);
         let mut damaged = image.clone();
-        damage(&mut random, &mut damaged, length(blocks), flags);
+        damage(&mut random, rules.shape, &mut damaged, flags);
         let mut out = vec![0; image.len()];
         let answer = ffi::repair(blocks, flags, &damaged, &mut out);
         assert_eq!(answer.answer, 0);
         assert!(out == image);
-        assert_eq!((answer.mask, answer.cells), second::changed(blocks, &damaged, &image));
+        assert_eq!((answer.mask, answer.cells), second::changed(rules.shape, &damaged, &image));
     }
 }
 
 #[test]
 fn damaged_records() {
-    let mut random = random("damaged records");
-    let all: Vec<Rules> = (0..=12).map(|n| Rules::new(n.max(1))).collect();
+    let mut random = Random::of("damaged records");
+    let all: Vec<Rules> = (0..=12).map(base).collect();
     for _ in 0..rounds(2400) {
         let blocks = 1 + random.below(12) as u32;
         let rules = &all[blocks as usize];
-        let (_, mut image) = record(&mut random, rules, blocks);
+        let (_, mut image) = random.record(rules);
         let tracks = {
             let count = random.below(6);
-            random.tracks(count)
+            random.tracks(rules.shape, count)
         };
-        damage(&mut random, &mut image, length(blocks), tracks);
+        damage(&mut random, rules.shape, &mut image, tracks);
         // Right flags, some missing, some extra, or none.
         let flags = match random.below(5) {
             0 => tracks,
@@ -143,7 +127,7 @@ fn damaged_records() {
             3 => 0,
             _ => {
                 let count = random.below(5);
-                random.tracks(count)
+                random.tracks(rules.shape, count)
             }
         };
         compare(&mut random, rules, blocks, flags, &image);
@@ -152,16 +136,16 @@ fn damaged_records() {
 
 #[test]
 fn long_records() {
-    let mut random = random("long records");
+    let mut random = Random::of("long records");
     for _ in 0..rounds(2400) / 60 {
         let blocks = 200 + random.below(57) as u32;
-        let rules = Rules::new(blocks);
-        let (_, mut image) = record(&mut random, &rules, blocks);
+        let rules = base(blocks);
+        let (_, mut image) = random.record(&rules);
         let tracks = {
             let count = 1 + random.below(3);
-            random.tracks(count)
+            random.tracks(rules.shape, count)
         };
-        damage(&mut random, &mut image, length(blocks), tracks);
+        damage(&mut random, rules.shape, &mut image, tracks);
         compare(&mut random, &rules, blocks, tracks, &image);
     }
 }
@@ -169,13 +153,13 @@ fn long_records() {
 #[test]
 fn noise() {
     // Images that are no record at all, with every kind of flags.
-    let mut random = random("noise");
-    let rules = Rules::new(1);
+    let mut random = Random::of("noise");
+    let rules = base(1);
     for _ in 0..rounds(2400) {
-        let image: Vec<u8> = random.bytes(size(1)).iter().map(|x| x & 1).collect();
+        let image: Vec<u8> = random.bytes(rules.shape.size()).iter().map(|x| x & 1).collect();
         let flags = {
             let count = random.below(6);
-            random.tracks(count)
+            random.tracks(rules.shape, count)
         };
         compare(&mut random, &rules, 1, flags, &image);
     }
@@ -183,10 +167,11 @@ fn noise() {
 
 #[test]
 fn all_flag_words() {
-    let image = vec![0u8; size(1)];
-    let mut out = vec![0u8; size(1)];
+    let shape = Shape::base(1);
+    let image = vec![0u8; shape.size()];
+    let mut out = vec![0u8; shape.size()];
     for flags in 0..1u32 << 18 {
-        let code = second::code(flags);
+        let code = second::code(shape, flags);
         let answer = if code == 0 { 6 } else { 0 };
         assert_eq!(ffi::repair(1, flags, &image, &mut out), number(answer, 0), "flags {flags:#x}");
         assert_eq!(ffi::trace(1, flags, &image, &mut out), number(answer, 0), "flags {flags:#x}");
@@ -199,9 +184,9 @@ fn all_flag_words() {
 
 #[test]
 fn lengths_and_cells() {
-    let mut random = random("lengths and cells");
-    let rules = Rules::new(2);
-    let (payload, image) = record(&mut random, &rules, 2);
+    let mut random = Random::of("lengths and cells");
+    let rules = base(2);
+    let (payload, image) = random.record(&rules);
     for (cut, grow) in [(1, 0), (0, 1), (image.len(), 0)] {
         let mut other = image[..image.len() - cut].to_vec();
         other.extend(vec![0; grow]);
@@ -251,14 +236,14 @@ fn lengths_and_cells() {
 #[test]
 fn too_many_is_too_many() {
     // From four blocks up the code is 0 exactly when two good records agree off the flags; below, only one way.
-    let mut random = random("too many");
+    let mut random = Random::of("too many");
     for blocks in [1, 2, 4] {
-        let rules = Rules::new(blocks);
+        let rules = base(blocks);
         for _ in 0..rounds(2400) / 30 {
             let count = random.below(7);
-            let flags = random.tracks(count);
-            let doubt = rules.doubt(flags) > 0;
-            if second::code(flags) != 0 {
+            let flags = random.tracks(rules.shape, count);
+            let doubt = rules.doubt(&rules.flagged(flags)) > 0;
+            if second::code(rules.shape, flags) != 0 {
                 assert!(!doubt, "flags {flags:#x}");
             } else if blocks >= 4 {
                 assert!(doubt, "flags {flags:#x}");

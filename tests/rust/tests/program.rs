@@ -1,7 +1,7 @@
 //! The program `axp` on stored inputs: tests/axp/NAME.in and what it must print, NAME.out.
 
 use axp_tests::damage::{damage, Random};
-use axp_tests::second::{encode, expected, length, size, Rules};
+use axp_tests::second::{expected, Rules, Shape};
 use std::fs;
 use std::io::Write;
 use std::path::{Path, PathBuf};
@@ -45,21 +45,22 @@ fn stored_inputs() {
 #[ignore]
 fn store() {
     let mut random = Random(5);
-    let mut save = |name: &str, blocks: u32, flags: u32, image: &[u8]| {
+    let save = |name: &str, blocks: u32, flags: u32, image: &[u8]| {
         let mut input = (blocks as u16).to_be_bytes().to_vec();
         input.extend(flags.to_be_bytes());
         input.extend(image);
-        let rules = Rules::new(blocks.clamp(1, 256));
+        let rules = Rules::new(Shape::base(blocks));
         let before = vec![0u8; 37_134];
         let mut text = format!("axp {blocks} {flags}\n");
         for (call, extras) in [("repair", false), ("trace", true)] {
-            let (r, _) = expected(&rules, blocks, flags, image, &before, extras);
+            let (r, _) = expected(&rules, flags, image, &before, extras);
             let second = if r.answer == 0 { r.mask } else { r.detail };
             text += &format!("{call} {} {second} {}\n", r.answer, r.cells);
         }
         fs::write(root().join(format!("tests/axp/{name}.in")), input).unwrap();
         fs::write(root().join(format!("tests/axp/{name}.out")), text).unwrap();
     };
+    let size = |blocks: u32| Shape::base(blocks).size();
     let zero = vec![0u8; size(1)];
     let mut one = zero.clone();
     one[23] = 1;
@@ -76,11 +77,10 @@ fn store() {
     save("cell_value", 1, 0, &bad);
     save("flag_bit", 1, 1 << 18, &zero);
     save("too_many", 1, 15, &zero);
-    let rules = Rules::new(256);
-    let payload = random.bytes(14 * 256);
-    let mut image = encode(&rules, 256, &payload);
+    let rules = Rules::new(Shape::base(256));
+    let (_, mut image) = random.record(&rules);
     let tracks = 1 << 2 | 1 << 5 | 1 << 9 | 1 << 16;
-    damage(&mut random, &mut image, length(256), tracks);
+    damage(&mut random, rules.shape, &mut image, tracks);
     save("repaired_256", 256, tracks, &image);
     fs::write(root().join("tests/axp/short.in"), [0, 1, 0, 0, 0]).unwrap();
     fs::write(root().join("tests/axp/short.out"), "axp short\n").unwrap();

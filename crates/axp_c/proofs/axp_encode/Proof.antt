@@ -1,6 +1,7 @@
 -- The call's own promise, carried to the struct of numbers.
 use borrow.Author.Needs.{needs}
-use Rattle.code.proofs.Extras.{encode-numbered}
+use Rattle.code.specs.Supply.{encode}
+use Rattle.code.proofs.Supply.{extras-numbered}
 use Rattle.axp_c.proofs.axp_encode.Statement.{statement}
 use Rattle.axp_c.proofs.axp_encode.Tie as tie
 
@@ -8,7 +9,7 @@ encode-requires : tie.Need-encode-requires
 encode-requires c κs = search needs
 
 for-c-requires : tie.Need-for-c-requires
-for-c-requires c κs = encode-numbered _ _ _ _ _ (c .before .before .encode .ensures)
+for-c-requires c κs = extras-numbered (encode _ _ _) _ _ (c .before .before .encode .ensures)
 
 same-length : tie.Need-same-length
 same-length c = search needs

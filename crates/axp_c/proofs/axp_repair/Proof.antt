@@ -1,6 +1,7 @@
 -- The call's own promise, carried to the struct of numbers.
 use borrow.Author.Needs.{needs}
-use Rattle.code.proofs.Extras.{repair-numbered}
+use Rattle.code.specs.Supply.{mend, repair}
+use Rattle.code.proofs.Supply.{extras-numbered}
 use Rattle.axp_c.proofs.axp_repair.Statement.{statement}
 use Rattle.axp_c.proofs.axp_repair.Tie as tie
 
@@ -8,7 +9,7 @@ repair-requires : tie.Need-repair-requires
 repair-requires c κs = search needs
 
 for-c-requires : tie.Need-for-c-requires
-for-c-requires c κs = repair-numbered _ _ _ _ _ _ (c .before .before .repair .ensures)
+for-c-requires c κs = extras-numbered (mend repair _ _ _ _) _ _ (c .before .before .repair .ensures)
 
 same-length : tie.Need-same-length
 same-length c = search needs

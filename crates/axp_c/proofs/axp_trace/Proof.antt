@@ -1,6 +1,7 @@
 -- The call's own promise, carried to the struct of numbers.
 use borrow.Author.Needs.{needs}
-use Rattle.code.proofs.Extras.{trace-numbered}
+use Rattle.code.specs.Supply.{mend, trace}
+use Rattle.code.proofs.Supply.{extras-numbered}
 use Rattle.axp_c.proofs.axp_trace.Statement.{statement}
 use Rattle.axp_c.proofs.axp_trace.Tie as tie
 
@@ -8,7 +9,7 @@ trace-requires : tie.Need-trace-requires
 trace-requires c κs = search needs
 
 for-c-requires : tie.Need-for-c-requires
-for-c-requires c κs = trace-numbered _ _ _ _ _ _ (c .before .before .trace .ensures)
+for-c-requires c κs = extras-numbered (mend trace _ _ _ _) _ _ (c .before .before .trace .ensures)
 
 same-length : tie.Need-same-length
 same-length c = search needs

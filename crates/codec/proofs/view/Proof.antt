@@ -1,28 +1,30 @@
 -- `view` meets its contract: an empty part, or the stretch.
-use borrow.Author.Needs.{needs}
-use mathlib.Core.Path.{refl}
+use mathlib.Core.Path.{refl, _∙_}
 use Prim.Native.Nat.{_+_, _*_, _<_, _≤_}
 use native.Mathlib.Omega.{arith}
 use denote.Ref.{now}
 use lib.ListN.{length}
+use Rattle.code.specs.Record.{base}
+use Rattle.code.specs.Numbers.{input-checks, Passed}
 use Rattle.syndrome.proofs.Table.{row-end}
-use Rattle.codec.proofs.Answering.{Early, early, not-viewed, viewed}
+use Rattle.checks.proofs.Refusing.{passes, exact}
+use Rattle.codec.proofs.Answering.{not-viewed, no-track, viewed}
+use borrow.Author.Needs.{needs}
 use Rattle.codec.proofs.view.Statement.{statement}
 use Rattle.codec.proofs.view.Tie as tie
 
--- No check applies.
-passed : (c : tie.Else1) → let a = c .before .before .before .args in
-    Early (a .blocks) (length (now (a .image))) (18 * (8 * a .blocks + 15)) 17 (a .g)
-passed c = early _ _ _ _ _ _ (c .if1 .left) (c .before .first-number .ensures)
+-- The count and the image's length are right.
+passed : (c : tie.Else1) → let a = c .before .before .before .before .args in
+    Passed (input-checks (a .blocks) (18 * (8 * a .blocks + 15)) (length (now (a .image))))
+passed c = passes (input-checks _ _ _) _ (λ e. omega arith, (λ e. omega arith, tt)) (c .before .before .check-input .ensures) (c .if1 .left)
 
 -- The stretch is within the image.
-room : (c : tie.Else1) → let a = c .before .before .before .args in
+room : (c : tie.Else2) → let a = c .before .before .before .before .before .args in
     a .g * (8 * a .blocks + 15) + (8 * a .blocks + 15) ≤ length (now (a .image))
 room c =
-    let p = passed c in
-    let a = c .before .before .before .args in
+    let a = c .before .before .before .before .before .args in
     let few : a .g < 18 = omega arith in
-    omega (arith, row-end (8 * a .blocks + 15) _ _ few)
+    omega (arith, row-end (8 * a .blocks + 15) _ _ few, exact _ _ _ (passed (c .before)))
 
 mul-l : tie.Need-mul-l
 mul-l c = search needs
@@ -30,11 +32,11 @@ mul-l c = search needs
 add-l : tie.Need-add-l
 add-l c = search needs
 
-mul-first-number : tie.Need-mul-first-number
-mul-first-number c = search needs
+mul-check-input : tie.Need-mul-check-input
+mul-check-input c = search needs
 
-first-number-requires : tie.Need-first-number-requires
-first-number-requires c κs = search needs
+check-input-requires : tie.Need-check-input-requires
+check-input-requires c κs = search needs
 
 sub-result : tie.Need-sub-result
 sub-result c = search needs
@@ -46,13 +48,9 @@ part-result-end : tie.Need-part-result-end
 part-result-end c = search needs
 
 returns : tie.Need-returns
-returns c = not-viewed _ _ _ _ _ (c .before .if1 .taken) (c .before .before .first-number .ensures) refl
-
-mul-start : tie.Need-mul-start
-mul-start c = omega (arith, room c)
-
-add-end : tie.Need-add-end
-add-end c = omega (arith, room c)
+returns c =
+    let a = c .before .before .before .before .before .args in
+    not-viewed (base (a .blocks)) (a .blocks) (now (a .image)) (a .g) _ _ (c .before .before .before .check-input .ensures) (c .before .if1 .taken) refl
 
 sub-result-2 : tie.Need-sub-result-2
 sub-result-2 c = search needs
@@ -61,10 +59,32 @@ part-result-start-2 : tie.Need-part-result-start-2
 part-result-start-2 c = search needs
 
 part-result-end-2 : tie.Need-part-result-end-2
-part-result-end-2 c = room c
+part-result-end-2 c = search needs
 
 returns-2 : tie.Need-returns-2
-returns-2 c = viewed _ _ _ (passed (c .before))
+returns-2 c =
+    let a = c .before .before .before .before .before .before .args in
+    no-track (base (a .blocks)) (a .blocks) (now (a .image)) (a .g) (passed (c .before .before)) _ (c .before .if2 .taken) refl
+
+mul-start : tie.Need-mul-start
+mul-start c = omega (arith, room c)
+
+add-end : tie.Need-add-end
+add-end c = omega (arith, room c)
+
+sub-result-3 : tie.Need-sub-result-3
+sub-result-3 c = search needs
+
+part-result-start-3 : tie.Need-part-result-start-3
+part-result-start-3 c = search needs
+
+part-result-end-3 : tie.Need-part-result-end-3
+part-result-end-3 c = room c
+
+returns-3 : tie.Need-returns-3
+returns-3 c =
+    let a = c .before .before .before .before .before .before .args in
+    viewed (base (a .blocks)) (a .blocks) (now (a .image)) (a .g) (passed (c .before .before)) (λ h. omega (arith, c .before .if2 .left))
 
 pub view-spec : {M : Type 1} → statement M
 view-spec =
@@ -72,15 +92,19 @@ view-spec =
     (tie.spec
     mul-l
     add-l
-    mul-first-number
-    first-number-requires
+    mul-check-input
+    check-input-requires
     sub-result
     part-result-start
     part-result-end
     returns
-    mul-start
-    add-end
     sub-result-2
     part-result-start-2
     part-result-end-2
-    returns-2)
+    returns-2
+    mul-start
+    add-end
+    sub-result-3
+    part-result-start-3
+    part-result-end-3
+    returns-3)

@@ -1,26 +1,42 @@
--- `code_of`: the flags of the two sets are the word's first nine bits and the next nine.
+-- `code_of`: the marked tracks of A and then those of B are counted.
 use mathlib.Core.Path.{ap₂, _∙_}
-use borrow.Author.Needs.{needs}
+use native.Mathlib.Omega.{arith}
+use denote.Ref.{now}
 use Rattle.code.specs.Reach.{reach-code}
-use Rattle.repair.proofs.Words.{word-code}
+use Rattle.code.specs.Sizes.{shape}
+use Rattle.repair.proofs.Words.{marks-code}
+use borrow.Author.Needs.{needs}
 use Rattle.repair.proofs.code_of.Statement.{statement}
 use Rattle.repair.proofs.code_of.Tie as tie
 
-count-flags-requires : tie.Need-count-flags-requires
-count-flags-requires c κs = search needs
+add-a : tie.Need-add-a
+add-a c = search needs
 
-count-flags-requires-2 : tie.Need-count-flags-requires-2
-count-flags-requires-2 c κs = search needs
+count-marks-requires : tie.Need-count-marks-requires
+count-marks-requires c κs = search needs
+
+add-count-marks : tie.Need-add-count-marks
+add-count-marks c = search needs
+
+count-marks-requires-2 : tie.Need-count-marks-requires-2
+count-marks-requires-2 c κs = search needs
 
 reach-requires : tie.Need-reach-requires
 reach-requires c κs = search needs
 
 returns : tie.Need-returns
 returns c =
-    let a = c .before .before .count-flags .ensures in
-    let b = c .before .count-flags2 .ensures in
-    record { is = λ n. c .reach .ensures ∙ ap₂ reach-code a b ∙ word-code _ n }
+    let i = c .before .before .before .before .before .before .args in
+    c .reach .ensures ∙ ap₂ reach-code (c .before .before .before .count-marks .ensures) (c .before .count-marks2 .ensures)
+    ∙ marks-code (shape (i .z)) (now (i .marks)) _ _ (omega arith) (omega arith)
 
 pub code-of-spec : {M : Type 1} → statement M
 code-of-spec =
-    tie.close (tie.spec count-flags-requires count-flags-requires-2 reach-requires returns)
+    tie.close
+    (tie.spec
+    add-a
+    count-marks-requires
+    add-count-marks
+    count-marks-requires-2
+    reach-requires
+    returns)

@@ -1,48 +1,54 @@
 -- `repair`: the checks come in the order of document 01, and the record is worked on in the first part of the output.
 use mathlib.Core.Path.{sym, _∙_}
 use mathlib.Core.Logic.{_≢_}
-use Prim.Native.Nat.{_≤_}
-use borrow.Author.Needs.{needs}
 use denote.Ref.{now}
 use lib.ListN.{length}
 use lib.Seq.{length-take-le}
 use Rattle.code.specs.Record.{base}
-use Rattle.code.specs.Image.{image-size}
-use Rattle.code.specs.Flags.{word-flags}
+use Rattle.code.specs.Flags.{whole, word-flags}
 use Rattle.code.specs.Reach.{flags-code}
 use Rattle.code.specs.Numbers.{Passed}
-use Rattle.repair.specs.Steps.{early-checks}
-use Rattle.repair.proofs.Calling.{refused, passed, room, passed-given, refused-code, repaired}
+use Rattle.code.specs.Calls.{early-checks, Repairs}
+use Rattle.solver.specs.Solver.{marked}
+use Rattle.repair.proofs.Calling.{refused, passed, small, has-room, given, too-many, repaired}
+use borrow.Author.Needs.{needs}
 use Rattle.repair.proofs.repair.Statement.{statement}
 use Rattle.repair.proofs.repair.Tie as tie
 
 -- Past the checks.
-passes : (c : tie.Else1) → let a = c .before .before .before .before .before .args in Passed (early-checks (a .blocks) (a .flags) (now (a .image)) (now (a .out)))
-passes c = passed _ _ _ (now (c .before .before .before .before .before .args .out)) _ (c .before .before .check .ensures) (c .if1 .left)
+passes : (c : tie.Else1) → let a = c .before .before .before .before .before .args in Passed (early-checks (base (a .blocks)) (a .blocks) (a .flags) (now (a .image)) (length (now (a .out))))
+passes c = let a = c .before .before .before .before .before .args in passed (base (a .blocks)) _ _ _ _ _ (c .before .before .check .ensures) (c .if1 .left)
 
-has-room : (c : tie.Else2) → let a = c .before .before .before .before .before .before .before .args in image-size (base (a .blocks)) ≤ length (now (a .out))
-has-room c = let a = c .before .before .before .before .before .before .before .args in room _ _ (now (a .image)) (now (a .out)) (passes (c .before .before))
-
-coded : (c : tie.Else2) → let a = c .before .before .before .before .before .before .before .args in flags-code (base (a .blocks)) (word-flags (base (a .blocks)) (a .flags)) ≢ 0
-coded c e = c .if2 .left (c .before .code-of .ensures .is _ ∙ e)
+coded : (c : tie.Else2) → let a = c .before .before .before .before .before .before .before .before .before .args in flags-code (base (a .blocks)) (marked (base (a .blocks)) (c .before .before .before .marks-of .result)) ≢ 0
+coded c e = c .if2 .left (c .before .code-of .ensures ∙ e)
 
 check-requires : tie.Need-check-requires
 check-requires c κs = search needs
 
 returns : tie.Need-returns
-returns c = refused _ _ _ _ _ (c .before .before .check .ensures) (c .if1 .taken) _
+returns c =
+    let a = c .before .before .before .before .before .args in
+    refused (base (a .blocks)) (a .blocks) (a .flags) (word-flags (base (a .blocks)) (a .flags)) (now (a .image)) (now (a .out)) (Repairs (base (a .blocks)) (whole (word-flags (base (a .blocks)) (a .flags))) (now (a .image)) (now (a .out))) _ (c .before .before .check .ensures) (c .if1 .taken)
+
+mul-repair-record : tie.Need-mul-repair-record
+mul-repair-record c = search needs
+
+marks-of-requires : tie.Need-marks-of-requires
+marks-of-requires c κs = search needs
+
+slice-aggregate-code-of : tie.Need-slice-aggregate-code-of
+slice-aggregate-code-of c = search needs
 
 code-of-requires : tie.Need-code-of-requires
-code-of-requires c κs = search needs
+code-of-requires c κs = (small _ _ _ _ (passes (c .before .before)), search needs)
 
 plain-answer-requires : tie.Need-plain-answer-requires
 plain-answer-requires c κs = search needs
 
 returns-2 : tie.Need-returns-2
-returns-2 c = refused-code _ _ _ _ (passes (c .before .before .before)) _ (c .plain-answer .ensures) (sym (c .before .before .code-of .ensures .is _) ∙ c .before .if2 .taken) _
-
-mul-repair-record : tie.Need-mul-repair-record
-mul-repair-record c = search needs
+returns-2 c =
+    let a = c .before .before .before .before .before .before .before .before .before .before .args in
+    too-many _ _ _ _ (passes (c .before .before .before .before .before)) _ (c .before .before .before .before .marks-of .ensures) _ (sym (c .before .before .code-of .ensures) ∙ c .before .if2 .taken) (c .plain-answer .ensures) (Repairs (base (a .blocks)) (whole (word-flags (base (a .blocks)) (a .flags))) (now (a .image)) (now (a .out)))
 
 mul-repair-record-2 : tie.Need-mul-repair-record-2
 mul-repair-record-2 c = search needs
@@ -54,19 +60,19 @@ mul-repair-record-3 : tie.Need-mul-repair-record-3
 mul-repair-record-3 c = search needs
 
 slice-relend-prefix-repair-record : tie.Need-slice-relend-prefix-repair-record
-slice-relend-prefix-repair-record c = has-room c
+slice-relend-prefix-repair-record c = has-room _ _ _ _ (passes (c .before .before .before .before))
 
 slice-aggregate-repair-record : tie.Need-slice-aggregate-repair-record
-slice-aggregate-repair-record c = sym (length-take-le _ _ (has-room (c .before)))
+slice-aggregate-repair-record c = sym (length-take-le _ _ (has-room _ _ _ _ (passes (c .before .before .before .before .before))))
 
 repair-record-requires : tie.Need-repair-record-requires
-repair-record-requires c κs = passed-given _ _ _ _ (passes (c .before .before .before)) (coded (c .before))
+repair-record-requires c κs = given _ _ _ _ (passes (c .before .before .before .before .before)) _ (c .before .before .before .before .marks-of .ensures) (coded (c .before))
 
 same-length : tie.Need-same-length
 same-length c = search needs
 
 returns-3 : tie.Need-returns-3
-returns-3 c = repaired _ _ _ _ _ _ (passes (c .before .before .before .before .before .before)) (coded (c .before .before .before .before)) (c .before .before .repair-record .kept .1 .1 .1 .0) (c .before .before .repair-record .ensures)
+returns-3 c = repaired _ _ _ _ (passes (c .before .before .before .before .before .before .before .before)) _ (c .before .before .before .before .before .before .before .marks-of .ensures) _ (coded (c .before .before .before .before)) _ (c .before .before .repair-record .kept .1 .1 .1 .0) (c .before .before .repair-record .ensures)
 
 pub repair-spec : {M : Type 1} → statement M
 repair-spec =
@@ -74,10 +80,12 @@ repair-spec =
     (tie.spec
     check-requires
     returns
+    mul-repair-record
+    marks-of-requires
+    slice-aggregate-code-of
     code-of-requires
     plain-answer-requires
     returns-2
-    mul-repair-record
     mul-repair-record-2
     add-repair-record
     mul-repair-record-3

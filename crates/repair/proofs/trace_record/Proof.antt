@@ -1,10 +1,10 @@
 -- `trace_record`: the output is a copy of the image and `first` holds its syndromes, so the search finds what is in reach.
 use mathlib.Core.Path.{sym, _∙_}
 use native.Mathlib.Omega.{arith}
-use borrow.Author.Needs.{needs}
 use borrow.Author.Tests.{not-true, not-false}
 use lib.Seq.{length-take-le}
 use Rattle.repair.proofs.Records.{given-copy, given-traceable, searched-only, trace-found, trace-none}
+use borrow.Author.Needs.{needs}
 use Rattle.repair.proofs.trace_record.Statement.{statement}
 use Rattle.repair.proofs.trace_record.Tie as tie
 
@@ -16,9 +16,6 @@ add-l-2 c = search needs
 
 add-l-3 : tie.Need-add-l-3
 add-l-3 c = search needs
-
-marks-of-requires : tie.Need-marks-of-requires
-marks-of-requires c κs = search needs
 
 copy-into-requires : tie.Need-copy-into-requires
 copy-into-requires c κs = search needs
@@ -42,15 +39,13 @@ slice-aggregate-syn : tie.Need-slice-aggregate-syn
 slice-aggregate-syn c = sym (length-take-le _ _ (omega arith))
 
 syndromes-requires : tie.Need-syndromes-requires
-syndromes-requires c κs = let p = c .before .before .before .before .before .before .before .before .before .before .before .before .pre .0 in (p .small, (p .image-is, length-take-le _ _ (omega arith)))
+syndromes-requires c κs = let p = c .before .before .before .before .before .before .before .before .before .before .before .pre .0 in (p .small, (p .image-is, length-take-le _ _ (omega arith)))
 
 search-requires : tie.Need-search-requires
 search-requires c κs =
-    let s = c .before .before .before .before .before .before .before .before .before .before .before .before .before .before .before .before .before in
-    let h = c .before .before .before .before .syndromes .ensures in (
-      given-traceable _ _ _ _ (s .pre .0) _ (c .before .before .before .before .before .before .before .before .before .before .before .before .marks-of .ensures) _ (s .pre .1) _ h,
-      (given-copy _ _ _ _ (s .pre .0) _ (c .before .before .before .before .before .before .before .before .before .before .copy-into .ensures), length-take-le _ _ (omega arith) ∙ sym (h .size)),
-    )
+    let p = c .before .before .before .before .before .before .before .before .before .before .before .before .before .before .before .before .pre in
+    let h = c .before .before .before .before .syndromes .ensures in
+    (given-traceable _ _ _ _ (p .0) _ (p .1) _ h, (given-copy _ _ _ _ (p .0) _ (c .before .before .before .before .before .before .before .before .before .before .copy-into .ensures), length-take-le _ _ (omega arith) ∙ sym (h .size)))
 
 plain-answer-requires : tie.Need-plain-answer-requires
 plain-answer-requires c κs = search needs
@@ -60,29 +55,29 @@ same-length c = search needs
 
 returns : tie.Need-returns
 returns c =
-    let s = c .before .before .before .before .before .before .before .before .before .before .before .before .before .before .before .before .before .before .before .before .before .before .before .before .before in
-    trace-none _ _ _ _ (s .pre .0) _ (c .before .before .before .before .before .before .before .before .before .before .before .before .before .before .before .before .before .before .before .before .marks-of .ensures) _ (s .pre .1) _ _ (c .before .before .before .before .before .before .before .search .ensures) (not-true _ (c .before .if1 .taken)) _ (c .plain-answer .ensures)
+    let p = c .before .before .before .before .before .before .before .before .before .before .before .before .before .before .before .before .before .before .before .before .before .before .before .before .pre in
+    trace-none _ _ _ _ (p .0) _ (p .1) _ _ (c .before .before .before .before .before .before .before .search .ensures) (not-true _ (c .before .if1 .taken)) _ (c .plain-answer .ensures)
 
 widen-requires : tie.Need-widen-requires
-widen-requires c κs = (c .before .before .before .before .before .before .before .before .before .before .before .before .before .before .before .before .before .before .before .marks-of .ensures .size, c .before .before .before .before .before .before .search .ensures .is-choice (not-false _ (c .if1 .left)))
+widen-requires c κs = (c .before .before .before .before .before .before .before .before .before .before .before .before .before .before .before .before .before .before .before .before .before .before .before .pre .0 .marks-size, c .before .before .before .before .before .before .search .ensures .is-choice (not-false _ (c .if1 .left)))
 
 slice-aggregate-answer-of : tie.Need-slice-aggregate-answer-of
 slice-aggregate-answer-of c = search needs
 
 answer-of-requires : tie.Need-answer-of-requires
 answer-of-requires c κs =
-    let s = c .before .before .before .before .before .before .before .before .before .before .before .before .before .before .before .before .before .before .before .before .before .before .before .before .before .before .before in
+    let p = c .before .before .before .before .before .before .before .before .before .before .before .before .before .before .before .before .before .before .before .before .before .before .before .before .before .before .pre in
     let h = c .before .before .before .before .before .before .before .before .before .search .ensures in
     let e = not-false _ (c .before .before .before .if1 .left) in
-    (searched-only _ _ _ _ (s .pre .0) _ (c .before .before .before .before .before .before .before .before .before .before .before .before .before .before .before .before .before .before .before .before .before .before .marks-of .ensures) _ (s .pre .1) _ _ h e _ (c .before .before .widen .ensures), h .is-choice e)
+    (searched-only _ _ _ _ (p .0) _ (p .1) _ _ h e _ (c .before .before .widen .ensures), h .is-choice e)
 
 same-length-2 : tie.Need-same-length-2
-same-length-2 c = c .before .before .before .before .before .before .before .before .before .before .search .ensures .size ∙ sym (c .before .before .before .before .before .before .before .before .before .before .before .before .before .before .before .before .before .before .before .before .before .before .before .before .before .before .before .before .pre .0 .out-has)
+same-length-2 c = c .before .before .before .before .before .before .before .before .before .before .search .ensures .size ∙ sym (c .before .before .before .before .before .before .before .before .before .before .before .before .before .before .before .before .before .before .before .before .before .before .before .before .before .before .before .pre .0 .out-has)
 
 returns-2 : tie.Need-returns-2
 returns-2 c =
-    let s = c .before .before .before .before .before .before .before .before .before .before .before .before .before .before .before .before .before .before .before .before .before .before .before .before .before .before .before .before in
-    trace-found _ _ _ _ (s .pre .0) _ (c .before .before .before .before .before .before .before .before .before .before .before .before .before .before .before .before .before .before .before .before .before .before .before .marks-of .ensures) _ (s .pre .1) _ _ (c .before .before .before .before .before .before .before .before .before .before .search .ensures) (not-false _ (c .before .before .before .before .if1 .left)) _ (c .answer-of .ensures)
+    let p = c .before .before .before .before .before .before .before .before .before .before .before .before .before .before .before .before .before .before .before .before .before .before .before .before .before .before .before .pre in
+    trace-found _ _ _ _ (p .0) _ (p .1) _ _ (c .before .before .before .before .before .before .before .before .before .before .search .ensures) (not-false _ (c .before .before .before .before .if1 .left)) _ (c .answer-of .ensures)
 
 pub trace-record-spec : {M : Type 1} → statement M
 trace-record-spec =
@@ -91,7 +86,6 @@ trace-record-spec =
     add-l
     add-l-2
     add-l-3
-    marks-of-requires
     copy-into-requires
     mul-room
     array-borrow-prefix-room

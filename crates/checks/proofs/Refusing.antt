@@ -1,0 +1,82 @@
+-- What callers take from the answer of their first checks: a number refuses the call, and with 0 the checks are passed.
+use mathlib.Core.Path.{_≡_, refl, sym, ap, _∙_}
+use mathlib.Core.Logic.{_≢_, inl, inr, by-cases}
+use mathlib.Core.List.{List, [], _∷_, _++_}
+use Prim.Native.Nat.{ℕ, _<_, _≤_}
+use native.Mathlib.Decide.{decLt, ℕ-discrete}
+use native.Mathlib.Omega.{arith}
+use lib.ListN.{length, getD}
+use Rattle.code.specs.Numbers.{Check, input-checks, size-checks, image-checks, room-check, cell-check, first-bad, First, Passed}
+use Rattle.code.specs.Calls.{Result, plain, Refused, Answered}
+use Rattle.code.proofs.Numbers.{first-bad-before, first-after, passed-both, Avoids}
+use Rattle.track.proofs.Cells.{every}
+use Rattle.checks.specs.First.{FirstAnswer}
+
+-- ## A number
+
+-- It is the first that applies of a longer list, too, and says what is right.
+pub refuses : (cs ds : List {1} Check) (r : Result) (right : Check → Type 0) (rest : Type 0) → ((c : Check) → r ≡ plain (c .number) (c .detail) → right c) →
+    FirstAnswer cs r → r .answer ≢ 0 → First (cs ++ ds) right rest
+refuses [] ds r right rest h e d = absurd (d (ap (λ (q : Result). q .answer) e))
+refuses (c ∷ cs) ds r right rest h (inl a) d = inl (a .0, h c (a .1))
+refuses (c ∷ cs) ds r right rest h (inr a) d = inr (a .0, refuses cs ds r right rest h (a .1) d)
+
+-- The call answers it and leaves the output as it came.
+pub refuses-call : (cs ds : List {1} Check) (r : Result) (done : Result → List ℕ → Type 0) (before : List ℕ) → FirstAnswer cs r → r .answer ≢ 0 →
+    Answered (cs ++ ds) done before r before
+refuses-call cs ds r done before = refuses cs ds r (Refused r before before) (done r before) (λ c e. record { result = e; output = refl })
+
+-- ## One check more
+
+module _ (cs : List {1} Check) (c : Check) (r : Result) (p : Passed cs) where
+  pub next-refuses : c .applies → r ≡ plain (c .number) (c .detail) → FirstAnswer (cs ++ (c ∷ [])) r
+  next-refuses a e = first-after cs (c ∷ []) (λ c. r ≡ plain (c .number) (c .detail)) (r ≡ plain 0 0) p (inl (a, e))
+
+  pub next-passes : ¬ c .applies → r ≡ plain 0 0 → FirstAnswer (cs ++ (c ∷ [])) r
+  next-passes d e = first-after cs (c ∷ []) (λ c. r ≡ plain (c .number) (c .detail)) (r ≡ plain 0 0) p (inr (d, e))
+
+-- ## None
+
+-- With 0 no check applies.
+pub passes : (cs : List {1} Check) (r : Result) → Avoids 0 cs → FirstAnswer cs r → r .answer ≡ 0 → Passed cs
+passes [] r v f e = tt
+passes (c ∷ cs) r v (inl a) e = absurd (v .0 (sym (ap (λ (q : Result). q .answer) (a .1)) ∙ e))
+passes (c ∷ cs) r v (inr a) e = (a .0, passes cs r (v .1) (a .1) e)
+
+-- The count and the lengths are right.
+module _ (n wanted input : ℕ) (p : Passed (input-checks n wanted input)) where
+  pub few : n ≤ 256
+  few = by-cases (decLt 256 n) (λ h. absurd (p .0 (inr h))) (λ h. omega arith)
+
+  pub exact : input ≡ wanted
+  exact = by-cases (ℕ-discrete input wanted) (λ e. e) (λ d. absurd (p .1 .0 d))
+
+pub record SizesRight (n wanted input size output : ℕ) : Type 0 where
+  pub few : n ≤ 256
+  pub exact : input ≡ wanted
+  pub fits : size ≤ output
+
+pub sizes-right : (n wanted input size output : ℕ) → Passed (size-checks n wanted input size output) → SizesRight n wanted input size output
+sizes-right n wanted input size output p =
+    let q = passed-both (input-checks n wanted input) (room-check size output ∷ []) p in
+    record {
+      few = few n wanted input (q .0);
+      exact = exact n wanted input (q .0);
+      fits = by-cases (decLt output size) (λ h. absurd (q .1 .0 h)) (λ h. omega arith);
+    }
+
+-- And the cells are bits.
+pub record ImageRight (n wanted : ℕ) (image : List ℕ) (size output : ℕ) : Type 0 where
+  pub sizes : SizesRight n wanted (length image) size output
+  pub bits : (i : ℕ) → getD image i 0 < 2
+
+pub image-right : (n wanted : ℕ) (image : List ℕ) (size output : ℕ) → Passed (image-checks n wanted image size output) → ImageRight n wanted image size output
+image-right n wanted image size output p =
+    let q = passed-both (size-checks n wanted (length image) size output) (cell-check image ∷ []) p in
+    record {
+      sizes = sizes-right n wanted (length image) size output (q .0);
+      bits = no-bad image (q .1 .0);
+    }
+  where
+    no-bad : (xs : List ℕ) → ¬ (first-bad xs < length xs) → (i : ℕ) → getD xs i 0 < 2
+    no-bad xs h = every (λ v. v < 2) xs (omega arith) (λ i k. first-bad-before xs i (omega arith))

@@ -1,0 +1,146 @@
+-- The three points of the supply, a record a point and a field a sentence, and what document 01 says besides of the values that
+-- repair and tracing return. Whatever the contracts allow has them: `point-1`, `point-2`, `point-3` and `values` of proofs/Supply.
+use mathlib.Core.Path.{_≡_}
+use mathlib.Core.Logic.{_⊎_, _≢_, _↔_}
+use mathlib.Core.Bool.{true, false}
+use mathlib.Core.List.{List, [], _∷_}
+use Prim.Native.Nat.{ℕ, _+_, _*_, _^_, _<_, _≤_}
+use lib.ListN.{getD}
+use Rattle.code.specs.Record.{TrackSet, A, B, Shape, base, tracks, track-length, Cells, Good, Same}
+use Rattle.code.specs.Image.{track-number, all-tracks, cells}
+use Rattle.code.specs.Payload.{payload-size, Carries}
+use Rattle.code.specs.Flags.{TrackFlags, whole, word-flags, flag-count, Within}
+use Rattle.code.specs.Reach.{flags-code, most, Extra, none, extra, AtMostOne, Ambiguous}
+use Rattle.code.specs.Calls.{Result, plain, changed-in, changed-cells, RepairNear, TraceNear}
+use Rattle.code.specs.Contracts.{Encoded, WasRead, Repaired, Traced}
+
+-- The call met none of these numbers.
+abbrev pub MetNone : List ℕ → Result → Type 0
+MetNone [] r = Unit {0}
+MetNone (k ∷ ks) r = (r .answer ≢ k) × MetNone ks r
+
+-- The two calls that change an image.
+pub data Mending : Type 0 where
+  repair trace : Mending
+
+-- ## Point 1
+
+-- A call, the track view aside, with its input: any block count, length, cell value and flag word. `before` is the output as it came.
+pub data Input : Type 0 where
+  encode : (n : ℕ) (payload before : List ℕ) → Input
+  read : (n : ℕ) (image before : List ℕ) → Input
+  mend : Mending → (n flags : ℕ) (image before : List ℕ) → Input
+
+-- Its contract.
+abbrev pub Right : Input → Result → List ℕ → Type 0
+Right (encode n payload before) = Encoded n payload before
+Right (read n image before) = WasRead n image before
+Right (mend repair n flags image before) = Repaired n flags image before
+Right (mend trace n flags image before) = Traced n flags image before
+
+abbrev pub output-before : Input → List ℕ
+output-before (encode n payload before) = before
+output-before (read n image before) = before
+output-before (mend way n flags image before) = before
+
+-- "The encoder gives only 1 to 3, the reader 1 to 4 and 7."
+abbrev pub OwnAnswer : Input → ℕ → Type 0
+OwnAnswer (encode n payload before) k = k ≤ 3
+OwnAnswer (read n image before) k = (k ≤ 4) ⊎ (k ≡ 7)
+OwnAnswer (mend way n flags image before) k = k ≤ 7
+
+pub record Point1 (input : Input) (r : Result) (after : List ℕ) : Type 0 where
+  -- "The answer to any call but the track view is 0 or one of the seven numbers, for every block count, length, cell value and flag word."
+  pub answer : r .answer ≤ 7
+  pub own-answer : OwnAnswer input (r .answer)
+  -- "It always comes, it presumes no check made by the calling program," — that the calls of crates/codec, crates/repair and
+  -- crates/axp_c end, and meet `Right` without a `requires`, is what the checker proves of each of them.
+  -- "and beside each number the document fixes every byte of the output."
+  pub fixed : (other : Result) (bytes : List ℕ) → Right input other bytes → (other ≡ r) × (bytes ≡ after)
+  -- "Numbers 1 to 6 leave the output as it came." "The detail is 0 except for number 4." (Document 01.)
+  pub untouched : 1 ≤ r .answer → r .answer ≤ 6 → after ≡ output-before input
+  pub no-detail : r .answer ≢ 4 → r .detail ≡ 0
+
+-- ## Point 2
+
+-- `encoded` and `was-read` are the contracts of an encoder and a reader of one shape: payload or image, output before, answer, output.
+pub record Point2 (sh : Shape) (n : ℕ) (encoded was-read : List ℕ → List ℕ → Result → List ℕ → Type 0) : Type 0 where
+  -- "The encoder's tracks satisfy the published cross-parity and vertical equations, closed by the tail of document 01,
+  pub equations : (payload before : List ℕ) (r : Result) (after : List ℕ) → encoded payload before r after → r .answer ≡ 0 → Good sh (cells sh after)
+  -- and carry the payload."
+  pub carried : (payload before : List ℕ) (r : Result) (after : List ℕ) → encoded payload before r after → r .answer ≡ 0 → Carries sh n (cells sh after) payload
+  -- "Every record satisfying them reads back to its payload," — where the lengths are right.
+  pub is-read : (image before : List ℕ) (r : Result) (after : List ℕ) → was-read image before r after → MetNone (1 ∷ 2 ∷ 3 ∷ []) r →
+      Good sh (cells sh image) → r .answer ≡ 0
+  pub reads-back : (image before : List ℕ) (r : Result) (after : List ℕ) → was-read image before r after → r .answer ≡ 0 →
+      (payload : List ℕ) → Carries sh n (cells sh image) payload → (i : ℕ) → i < payload-size sh n → getD after i 0 ≡ getD payload i 0
+  -- "and no other record is read."
+  pub no-other : (image before : List ℕ) (r : Result) (after : List ℕ) → was-read image before r after → r .answer ≡ 0 → Good sh (cells sh image)
+
+-- ## Point 3
+
+-- Which records a call may hand out: those that differ from what was read only in flagged tracks and, with tracing, in the further
+-- tracks that the table allows.
+abbrev pub near-by : Mending → Shape → TrackFlags → List ℕ → Cells → Type 0
+near-by repair sh f image = RepairNear sh (whole f) image
+near-by trace sh f image = TraceNear sh (flags-code sh f) f image
+
+-- Some cell of track t differs.
+pub record Differ (sh : Shape) (x y : Cells) (s : TrackSet) (t : ℕ) : Type 0 where
+  pub position : ℕ
+  pub inside : position < track-length sh
+  pub unequal : x s t position ≢ y s t position
+
+-- "Whatever was read, after a repair or a tracing that met none of numbers 1 to 5:"
+-- `near` are the records that the call may hand out, `limit` the limit on flagged tracks, `long` that the record has four blocks or
+-- more, and `doubt` that two different good records of that length agree on all unflagged tracks.
+pub record Point3 (sh : Shape) (near : Cells → Type 0) (limit long doubt : Type 0) (image : List ℕ) (r : Result) (after : List ℕ) : Type 0 where
+  -- "where at most four tracks were flagged and at most three in either set, a repair's output holds the one good record of that
+  -- length equal to what was read on every unflagged track,
+  pub found : limit → (y : Cells) → Good sh y → near y → (r .answer ≡ 0) × Same sh y (cells sh after)
+  pub held : r .answer ≡ 0 → Good sh (cells sh after) × near (cells sh after)
+  -- and no other good record is equal there." — "With tracing the same holds of the good records in reach: there is at most one."
+  pub no-other : limit → AtMostOne sh near
+  -- "If there is none, and only then, the call said 7."
+  pub said-7 : limit → (r .answer ≡ 7) ↔ ((y : Cells) → Good sh y → near y → ⊥)
+  -- "With answer 0 or 7 the output differs from what was read only in cells of flagged tracks and, with tracing, of the further
+  -- tracks that the table allows;
+  pub only-there : (r .answer ≡ 0) ⊎ (r .answer ≡ 7) → near (cells sh after)
+  -- with answer 0 the mask and number returned are those of the cells in which it differs."
+  pub mask : r .answer ≡ 0 → (s : TrackSet) (t : ℕ) → t < tracks sh s → (word-flags sh (r .mask) s t ≡ true) ↔ Differ sh (cells sh image) (cells sh after) s t
+  pub number : r .answer ≡ 0 → r .changed ≡ changed-cells sh (cells sh image) (cells sh after)
+  -- "In records of four blocks or more, a call that met none of 1 to 5 said 6 exactly when two different good records of that length
+  -- agree on all unflagged tracks."
+  pub said-6 : long → (r .answer ≡ 6) ↔ doubt
+
+-- ## Document 01, of the values that repair and tracing return
+
+abbrev pub extra-in : Result → TrackSet → Extra
+extra-in r A = r .extra-a
+extra-in r B = r .extra-b
+
+-- The tracks allowed: the flagged ones and, with tracing, the extras of the table's code.
+abbrev pub tracks-allowed : Mending → Shape → TrackFlags → ℕ
+tracks-allowed repair sh f = flag-count sh f A + flag-count sh f B
+tracks-allowed trace sh f = flag-count sh f A + flag-count sh f B + most (flags-code sh f)
+
+-- Track number g is the only changed track of a set outside the flags.
+pub record OnlyChanged (sh : Shape) (f : TrackFlags) (x y : Cells) (s : TrackSet) (g : ℕ) : Type 0 where
+  pub track : ℕ
+  pub inside : track < tracks sh s
+  pub number : track-number sh s track ≡ g
+  pub unflagged : f s track ≡ false
+  pub changed : changed-in sh x y s track ≢ 0
+  pub others : (t : ℕ) → t < tracks sh s → f s t ≡ false → t ≢ track → changed-in sh x y s t ≡ 0
+
+pub record Values (sh : Shape) (f : TrackFlags) (allowed : ℕ) (image : List ℕ) (r : Result) (after : List ℕ) : Type 0 where
+  -- "with any other answer both are 0 and no extra is named"
+  pub otherwise : r .answer ≢ 0 → r ≡ plain (r .answer) (r .detail)
+  -- "Changed cells never exceed L times the tracks allowed."
+  pub at-most : r .changed ≤ track-length sh * allowed
+  -- "Tracing names for each set either no extra or one extra with its track: the changed track outside the flags"
+  pub named : (s : TrackSet) (g : ℕ) → extra-in r s ≡ extra g → OnlyChanged sh f (cells sh image) (cells sh after) s g
+  pub unnamed : r .answer ≡ 0 → (s : TrackSet) → extra-in r s ≡ none →
+      (t : ℕ) → t < tracks sh s → f s t ≡ false → changed-in sh (cells sh image) (cells sh after) s t ≡ 0
+  -- The mask has no bit from 18 up.
+  pub mask-small : r .mask < 2 ^ all-tracks sh

@@ -1,0 +1,208 @@
+//! The second decoder against the rules themselves, for other shapes than document 01's: unequal sets, no blocks, open
+//! tails, and unknown cells that are no whole tracks.
+
+use axp_tests::damage::{rounds, Random};
+use axp_tests::second::{code, encode, payload, Closing, Rules, Shape};
+
+const SIZES: [(usize, usize); 5] = [(1, 1), (1, 7), (7, 3), (3, 2), (7, 7)];
+const CLOSINGS: [Closing; 2] = [Closing::Closed, Closing::Open];
+
+/// At most three flags a set and four in all.
+fn within(shape: Shape, flags: u32) -> bool {
+    let [a, b] = [0, 1].map(|set| (flags & shape.word(set)).count_ones());
+    a <= 3 && b <= 3 && a + b <= 4
+}
+
+/// The flags that leave no doubt. Under an open tail these are not three beside a flagged track 0 of the other set.
+fn sure(shape: Shape, flags: u32) -> bool {
+    let three_beside = |set: usize| {
+        (flags & shape.word(set)).count_ones() == 3 && flags >> shape.track_number(1 - set, 0) & 1 == 1
+    };
+    within(shape, flags) && (shape.closing == Closing::Closed || !three_beside(0) && !three_beside(1))
+}
+
+/// The tracks with an unknown cell among `count` positions from m on.
+fn tracks_from(shape: Shape, unknown: &[bool], m: usize, count: usize) -> u32 {
+    let end = (m + count).min(shape.length());
+    let cells = |g: usize| g * shape.length() + m..g * shape.length() + end;
+    (0..shape.all_tracks()).filter(|&g| unknown[cells(g)].contains(&true)).map(|g| 1 << g).sum()
+}
+
+/// A random record is recovered, whatever stands in the unknown cells; with one more cell turned over, that could have
+/// been unknown too, there is none.
+fn recovered(random: &mut Random, rules: &Rules, unknown: &[bool]) {
+    let (_, image) = random.record(rules);
+    let mut damaged = image.clone();
+    (0..image.len()).filter(|&c| unknown[c]).for_each(|c| damaged[c] = random.next() as u8);
+    assert!(rules.peel(unknown, &damaged) == Some(image), "{:?}", rules.shape);
+    let cell = random.below(unknown.len());
+    let mut more = unknown.to_vec();
+    more[cell] = true;
+    if more != unknown && rules.doubt(&more) == 0 {
+        damaged[cell] ^= 1;
+        assert!(rules.peel(unknown, &damaged).is_none(), "{:?}, cell {cell}", rules.shape);
+    }
+}
+
+#[test]
+fn examples() {
+    // The ones of A and of B, as pairs of position and track.
+    let ones = |shape: Shape, a: &[(usize, usize)], b: &[(usize, usize)]| {
+        let mut image = vec![0u8; shape.size()];
+        a.iter().for_each(|&(m, t)| image[shape.index(0, t, m)] = 1);
+        b.iter().for_each(|&(m, t)| image[shape.index(1, t, m)] = 1);
+        image
+    };
+    // One data track a set: A(m,0) + A(m-1,1) + B(m-3,0) + B(m-2,1), and with the sets exchanged.
+    for closing in CLOSINGS {
+        let shape = Shape { t1: 1, t2: 1, positions: 8, closing };
+        let a = [(0, 1), (0, 2), (1, 0), (1, 2), (5, 0), (5, 2), (7, 0), (7, 2)];
+        let mut b = vec![(2, 0), (2, 2), (4, 0), (4, 2), (8, 0), (10, 0)];
+        if closing == Closing::Closed {
+            b.extend([(8, 2), (10, 2)]);
+        }
+        assert_eq!(encode(&Rules::new(shape), &[128, 0]), ones(shape, &a, &b));
+    }
+    // One in A and two in B: A(m,0) + A(m-1,1) + B(m-4,0) + B(m-3,1) + B(m-2,2),
+    // and B(m,0) + B(m-1,1) + B(m-2,2) + A(m-4,0) + A(m-3,1).
+    let shape = Shape { t1: 1, t2: 2, positions: 8, closing: Closing::Closed };
+    let rules = Rules::new(shape);
+    let a = [(0, 1), (0, 2), (1, 0), (1, 2), (7, 0), (7, 2), (9, 0), (9, 2)];
+    let b = [(3, 0), (3, 3), (5, 0), (5, 3), (11, 0), (11, 3)];
+    assert_eq!(encode(&rules, &[128, 0, 0]), ones(shape, &a, &b));
+    assert_eq!(encode(&rules, &[0, 0, 1]), ones(shape, &[(9, 0), (9, 2)], &[(7, 2), (7, 3), (9, 0), (9, 3)]));
+}
+
+#[test]
+fn whole_tracks() {
+    let mut random = Random::of("whole tracks");
+    for (t1, t2) in SIZES {
+        for positions in [0, 8, 16, 24] {
+            for closing in CLOSINGS {
+                let shape = Shape { t1, t2, positions, closing };
+                let rules = Rules::new(shape);
+                let (bytes, image) = random.record(&rules);
+                assert!(rules.is_good(&image) && payload(shape, &image) == bytes, "{shape:?}");
+                for _ in 0..rounds(2400) / 60 {
+                    let flags = loop {
+                        let count = random.below(5);
+                        let flags = random.tracks(shape, count);
+                        if sure(shape, flags) {
+                            break flags;
+                        }
+                    };
+                    recovered(&mut random, &rules, &rules.flagged(flags));
+                }
+            }
+        }
+    }
+}
+
+#[test]
+fn stretches() {
+    // Stretches that may run from one track into the next: within the limit in every window of lag + 1 positions.
+    let mut random = Random::of("stretches");
+    for (t1, t2) in SIZES {
+        for _ in 0..rounds(2400) / 12 {
+            let shape = Shape { t1, t2, positions: 8 * random.below(13), closing: Closing::Closed };
+            let mut unknown = vec![false; shape.size()];
+            for _ in 0..40 {
+                let from = random.below(shape.size());
+                let to = (from + 1 + random.below(40)).min(shape.size());
+                let before = unknown.clone();
+                unknown[from..to].fill(true);
+                let window = |m: usize| tracks_from(shape, &unknown, m, shape.lag() + 1);
+                if !(0..shape.length()).all(|m| within(shape, window(m))) {
+                    unknown = before;
+                }
+            }
+            recovered(&mut random, &Rules::new(shape), &unknown);
+        }
+    }
+}
+
+#[test]
+fn scattered_cells() {
+    // So many that they just leave no doubt: peeling stalls now and then.
+    let mut random = Random::of("scattered cells");
+    for (t1, t2) in SIZES {
+        for closing in CLOSINGS {
+            let rules = Rules::new(Shape { t1, t2, positions: 16, closing });
+            for _ in 0..rounds(2400) / 80 {
+                let mut unknown = vec![true; rules.shape.size()];
+                while rules.doubt(&unknown) > 0 {
+                    unknown.iter_mut().for_each(|u| *u &= random.below(8) > 0);
+                }
+                recovered(&mut random, &rules, &unknown);
+            }
+        }
+    }
+}
+
+#[test]
+fn doubt_of_all_flags() {
+    for (t1, t2) in [(1, 1), (1, 2), (2, 1), (3, 2)] {
+        let long = 2 * (t1 + t2 + 1) + 1;
+        for positions in [0, 1, 8, long, long + 1] {
+            for closing in CLOSINGS {
+                let shape = Shape { t1, t2, positions, closing };
+                let rules = Rules::new(shape);
+                for flags in 0..1 << shape.all_tracks() {
+                    assert_eq!(within(shape, flags), code(shape, flags) != 0);
+                    let doubt = rules.doubt(&rules.flagged(flags)) > 0;
+                    if sure(shape, flags) {
+                        assert!(!doubt, "{shape:?}, flags {flags:#x}");
+                    } else if positions >= long {
+                        assert!(doubt, "{shape:?}, flags {flags:#x}");
+                    }
+                }
+            }
+        }
+    }
+}
+
+#[test]
+fn three_beside_track_0() {
+    // Seven data tracks a set, one block: of all flags within the limit these alone leave doubt, under an open tail.
+    for closing in CLOSINGS {
+        let shape = Shape { closing, ..Shape::base(1) };
+        let rules = Rules::new(shape);
+        for flags in (0..1 << 18).filter(|&flags| within(shape, flags)) {
+            assert_eq!(rules.doubt(&rules.flagged(flags)) == 0, sure(shape, flags), "{closing:?}, flags {flags:#x}");
+        }
+    }
+}
+
+#[test]
+fn no_blocks() {
+    // The only good record is all zero.
+    let mut random = Random::of("no blocks");
+    for t1 in 1..=7 {
+        for t2 in 1..=7 {
+            for closing in CLOSINGS {
+                let rules = Rules::new(Shape { t1, t2, positions: 0, closing });
+                let (bytes, image) = random.record(&rules);
+                assert!(bytes.is_empty() && image.iter().all(|&x| x == 0), "{:?}", rules.shape);
+                let all = vec![true; image.len()];
+                assert_eq!(rules.doubt(&all), 0, "{:?}", rules.shape);
+                recovered(&mut random, &rules, &all);
+            }
+        }
+    }
+}
+
+#[test]
+#[should_panic(expected = "cells left over")]
+fn two_records() {
+    let rules = Rules::new(Shape::base(4));
+    rules.peel(&rules.flagged(15), &vec![0; rules.shape.size()]);
+}
+
+#[test]
+fn no_record() {
+    // As many flags, and a vertical of the other set that is wrong.
+    let rules = Rules::new(Shape::base(4));
+    let mut image = vec![0; rules.shape.size()];
+    image[rules.shape.index(1, 8, 0)] = 1;
+    assert!(rules.peel(&rules.flagged(15), &image).is_none());
+}
