@@ -1,24 +1,109 @@
--- What the calls answer once their checks are passed: the encoder 0, the others 0 or 7.
-use mathlib.Core.Path.{_≡_, ap}
-use mathlib.Core.Logic.{_⊎_, inl, inr}
-use mathlib.Core.List.{List}
-use Prim.Native.Nat.{ℕ}
+-- Point 1, for any shape and any checks: which numbers a call gives, and what they leave in the output.
+use mathlib.Core.Path.{_≡_, refl, ap}
+use mathlib.Core.Logic.{inl, inr, _≢_}
+use mathlib.Core.List.{List, [], _∷_}
+use Prim.Native.Nat.{ℕ, _<_, _≤_}
+use native.Mathlib.Omega.{arith}
+use lib.ListN.{length, getD}
 use Rattle.code.specs.Record.{TrackSet, Shape, Cells}
+use Rattle.code.specs.Image.{image-size}
+use Rattle.code.specs.Payload.{payload-size}
 use Rattle.code.specs.Reach.{Extra}
-use Rattle.code.specs.Calls.{Result, Encodes, ReadOrNot, Mended}
+use Rattle.code.specs.Numbers.{Check, cell-check, size-checks, image-checks}
+use Rattle.code.specs.Calls.{Result, plain, Answered, Stays, Encodes, ReadOrNot, Mended}
+use Rattle.code.proofs.Numbers.{Each, each-append, answered}
 
 abbrev answer-of : Result → ℕ
 answer-of r = r .answer
 
-module _ (sh : Shape) (before : List ℕ) (r : Result) (after : List ℕ) where
-  pub encodes-answer : (n : ℕ) (payload : List ℕ) → Encodes sh n payload before r after → r .answer ≡ 0
-  encodes-answer n payload a = ap answer-of (a .result)
+abbrev detail-of : Result → ℕ
+detail-of r = r .detail
 
-  pub read-answer : (n : ℕ) (image : List ℕ) → ReadOrNot sh n image before r after → (r .answer ≡ 0) ⊎ (r .answer ≡ 7)
-  read-answer n image (inl a) = inl (ap answer-of (a .1 .result))
-  read-answer n image (inr a) = inr (ap answer-of (a .1 .result))
+-- `own` are the call's answers, `seven` is what 7 leaves, `size` the result's size, and `before` the output as it came.
+pub record Leaves (own : ℕ → Type 0) (seven : List ℕ → Type 0) (size : ℕ) (before : List ℕ) (r : Result) (after : List ℕ) : Type 0 where
+  pub answer : r .answer ≤ 7
+  pub own-answer : own (r .answer)
+  pub untouched : 1 ≤ r .answer → r .answer ≤ 6 → after ≡ before
+  pub at-seven : r .answer ≡ 7 → seven after
+  pub later : Stays size before after
+  pub no-detail : r .answer ≢ 4 → r .detail ≡ 0
 
-  pub mended-answer : (near : Cells → Type 0) (named : List ℕ → TrackSet → Extra) (image : List ℕ) →
-      Mended sh near named image before r after → (r .answer ≡ 0) ⊎ (r .answer ≡ 7)
-  mended-answer near named image (inl a) = inl (ap answer-of (a .result))
-  mended-answer near named image (inr a) = inr (ap answer-of (a .result))
+unchanged : (size : ℕ) (before : List ℕ) → Stays size before before
+unchanged size before = record { lengths = refl; later = λ i h. refl }
+
+module _ (own : ℕ → Type 0) (seven : List ℕ → Type 0) (size : ℕ) (before : List ℕ) where
+  -- A check's number.
+  abbrev pub Refusal : Check → Type 0
+  Refusal c = Leaves own seven size before (plain (c .number) (c .detail)) before
+
+  pub refusal : (k d : ℕ) → k ≤ 6 → own k → (k ≢ 4 → d ≡ 0) → Leaves own seven size before (plain k d) before
+  refusal k d l o z = record {
+    answer = omega arith;
+    own-answer = o;
+    untouched = λ p q. refl;
+    at-seven = λ e. absurd (omega arith);
+    later = unchanged size before;
+    no-detail = z;
+  }
+
+  -- 1 to 3, and 1 to 4.
+  pub sizes : (n wanted input result output : ℕ) → own 1 → own 2 → own 3 → Each Refusal (size-checks n wanted input result output)
+  sizes n wanted input result output a b c = (
+    refusal 1 0 (omega arith) a (λ d. refl),
+    (refusal 2 0 (omega arith) b (λ d. refl), (refusal 3 0 (omega arith) c (λ d. refl), tt)),
+  )
+
+  pub images : (n wanted : ℕ) (image : List ℕ) (result output : ℕ) → own 1 → own 2 → own 3 → own 4 → Each Refusal (image-checks n wanted image result output)
+  images n wanted image result output a b c d = each-append Refusal (size-checks n wanted (length image) result output) (cell-check image ∷ [])
+      (sizes n wanted (length image) result output a b c) (refusal 4 _ (omega arith) d (λ e. absurd (e refl)), tt)
+
+  -- 0 and 7.
+  zero : (r : Result) (after : List ℕ) → own 0 → r .answer ≡ 0 → r .detail ≡ 0 → Stays size before after → Leaves own seven size before r after
+  zero r after o e d s = record {
+    answer = omega arith;
+    own-answer = rw e o;
+    untouched = λ p q. absurd (omega arith);
+    at-seven = λ z. absurd (omega arith);
+    later = s;
+    no-detail = λ n. d;
+  }
+
+  at-7 : (r : Result) (after : List ℕ) → own 7 → r .answer ≡ 7 → r .detail ≡ 0 → seven after → Stays size before after → Leaves own seven size before r after
+  at-7 r after o e d l s = record {
+    answer = omega arith;
+    own-answer = rw e o;
+    untouched = λ p q. absurd (omega arith);
+    at-seven = λ z. l;
+    later = s;
+    no-detail = λ n. d;
+  }
+
+-- ## The calls
+
+-- The first bytes are a copy of the image.
+abbrev pub Copy : Shape → List ℕ → List ℕ → Type 0
+Copy sh image bytes = (i : ℕ) → i < image-size sh → getD bytes i 0 ≡ getD image i 0
+
+module _ (sh : Shape) (own : ℕ → Type 0) (cs : List {1} Check) (before : List ℕ) (r : Result) (after : List ℕ) where
+  pub encode-leaves : (n : ℕ) (payload : List ℕ) (seven : List ℕ → Type 0) → own 0 → Each (Refusal own seven (image-size sh) before) cs →
+      Answered cs (Encodes sh n payload before) before r after → Leaves own seven (image-size sh) before r after
+  encode-leaves n payload seven o each = answered (Leaves own seven (image-size sh) before) cs (Encodes sh n payload before) before r after each
+      (λ a. zero own seven (image-size sh) before r after o (ap answer-of (a .result)) (ap detail-of (a .result)) (a .stays))
+
+  pub read-leaves : (n : ℕ) (image : List ℕ) → own 0 → own 7 → Each (Refusal own (λ bytes. bytes ≡ before) (payload-size sh n) before) cs →
+      Answered cs (ReadOrNot sh n image before) before r after → Leaves own (λ bytes. bytes ≡ before) (payload-size sh n) before r after
+  read-leaves n image o p each = answered (Leaves own (λ bytes. bytes ≡ before) (payload-size sh n) before) cs (ReadOrNot sh n image before) before r after each go
+    where
+      go : ReadOrNot sh n image before r after → Leaves own (λ bytes. bytes ≡ before) (payload-size sh n) before r after
+      go (inl a) = zero own (λ bytes. bytes ≡ before) (payload-size sh n) before r after o (ap answer-of (a .1 .result)) (ap detail-of (a .1 .result)) (a .1 .stays)
+      go (inr a) = at-7 own (λ bytes. bytes ≡ before) (payload-size sh n) before r after p (ap answer-of (a .1 .result)) (ap detail-of (a .1 .result)) (a .1 .output)
+          (rw (a .1 .output) (unchanged (payload-size sh n) before))
+
+  pub mend-leaves : (near : Cells → Type 0) (named : List ℕ → TrackSet → Extra) (image : List ℕ) → own 0 → own 7 →
+      Each (Refusal own (Copy sh image) (image-size sh) before) cs → Answered cs (Mended sh near named image before) before r after →
+      Leaves own (Copy sh image) (image-size sh) before r after
+  mend-leaves near named image o p each = answered (Leaves own (Copy sh image) (image-size sh) before) cs (Mended sh near named image before) before r after each go
+    where
+      go : Mended sh near named image before r after → Leaves own (Copy sh image) (image-size sh) before r after
+      go (inl a) = zero own (Copy sh image) (image-size sh) before r after o (ap answer-of (a .result)) (ap detail-of (a .result)) (a .stays)
+      go (inr a) = at-7 own (Copy sh image) (image-size sh) before r after p (ap answer-of (a .result)) (ap detail-of (a .result)) (a .copy) (a .stays)

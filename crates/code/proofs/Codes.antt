@@ -34,15 +34,20 @@ looked-up g (r ∷ rs) a b n = go (looked-up g rs a b) (eqb (r .a) a) (eqb (r .b
     go rest true false e d n = omega (arith, rest n)
     go rest false q e d n = omega (arith, rest n)
 
--- Two choices of extras stay within the limit.
-pub code-room : (a b : ℕ) → (reach-code a b ≡ 0 → ⊥) →
-    (a + 2 * most-in (reach-code a b) A ≤ 3) × (b + 2 * most-in (reach-code a b) B ≤ 3) × (a + b + 2 * most (reach-code a b) ≤ 4)
+-- Beside a and b flagged tracks, any two choices of extras that a code allows stay within the limit.
+pub record Room (code a b : ℕ) : Type 0 where
+  pub in-a : a + 2 * most-in code A ≤ 3
+  pub in-b : b + 2 * most-in code B ≤ 3
+  pub in-all : a + b + 2 * most code ≤ 4
+
+-- The table's codes leave that room.
+pub code-room : (a b : ℕ) → (reach-code a b ≡ 0 → ⊥) → Room (reach-code a b) a b
 unfolding reach-code
-code-room a b n = (
-  looked-up (λ a b c. a + 2 * most-in c A) rows a b n,
-  looked-up (λ a b c. b + 2 * most-in c B) rows a b n,
-  looked-up (λ a b c. a + b + 2 * most c) rows a b n,
-)
+code-room a b n = record {
+  in-a = looked-up (λ a b c. a + 2 * most-in c A) rows a b n;
+  in-b = looked-up (λ a b c. b + 2 * most-in c B) rows a b n;
+  in-all = looked-up (λ a b c. a + b + 2 * most c) rows a b n;
+}
 
 -- Codes are 0 to 5.
 pub code-small : (a b : ℕ) → reach-code a b ≤ 5
@@ -97,3 +102,8 @@ code-within sh f c n = let room = code-room _ _ n in closed-within sh f c (omega
 pub code-past : (sh : Shape) (f : TrackFlags) → flags-code sh f ≡ 0 → Within sh f → ⊥
 unfolding flags-code
 code-past sh f e w = coded _ _ (w .in-set A) (w .in-set B) (w .in-all) e
+
+-- The room that the flags' code leaves.
+pub flags-room : (sh : Shape) (f : TrackFlags) → (flags-code sh f ≡ 0 → ⊥) → Room (flags-code sh f) (flag-count sh f A) (flag-count sh f B)
+unfolding flags-code
+flags-room sh f = code-room (flag-count sh f A) (flag-count sh f B)

@@ -5,7 +5,6 @@ use mathlib.Core.Bool.{true}
 use mathlib.Core.List.{List, [], _∷_, _++_}
 use Prim.Native.Nat.{ℕ, _<_}
 use native.Mathlib.Omega.{arith}
-use lib.ListN.{getD}
 use Rattle.code.specs.Record.{TrackSet, Shape, tracks, Cells, Good, Same}
 use Rattle.code.specs.Image.{cells}
 use Rattle.code.specs.Flags.{word-flags}
@@ -13,8 +12,6 @@ use Rattle.code.specs.Reach.{Extra, AtMostOne}
 use Rattle.code.specs.Numbers.{Check, Decides}
 use Rattle.code.specs.Calls.{Result, Refused, Answered, changed-cells, Mended}
 use Rattle.code.specs.Supply.{Differ, Point3}
-use Rattle.code.proofs.Answering.{mended-answer}
-use Rattle.code.proofs.Linear.{same-sym}
 use Rattle.code.proofs.Masks.{mask-differ}
 use Rattle.code.proofs.Numbers.{first-append, Avoids, unrefused}
 use Rattle.code.proofs.Places.{cell-lt}
@@ -84,9 +81,13 @@ module _ (sh : Shape) (near : Cells → Type 0) (named : List ℕ → TrackSet �
   pub says-6 : (r .answer ≡ 6) ↔ six .applies
   says-6 = go last
     where
+      zero-or-seven : Done → (r .answer ≡ 0) ⊎ (r .answer ≡ 7)
+      zero-or-seven (inl a) = inl (ap answer-of (a .result))
+      zero-or-seven (inr a) = inr (ap answer-of (a .result))
+
       go : Decides (six .applies) (Refused r before after six) Done → (r .answer ≡ 6) ↔ six .applies
       go (inl a) = (λ e. a .0, λ e. ap answer-of (a .1 .result) ∙ is-6)
-      go (inr a) = (λ e. absurd (not-6 _ (mended-answer sh before r after near named image (a .1)) e), λ e. absurd (a .0 e))
+      go (inr a) = (λ e. absurd (not-6 _ (zero-or-seven (a .1)) e), λ e. absurd (a .0 e))
 
   -- Where the limit keeps the last check from applying and leaves at most one good record near, and a copy of the image is near.
   pub demanded : (limit long doubt : Type 0) → (limit → ¬ six .applies) → (limit → AtMostOne sh near) → (long → six .applies ↔ doubt) →

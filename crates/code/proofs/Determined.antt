@@ -3,12 +3,12 @@ use mathlib.Core.Path.{_≡_, sym, ap, _∙_}
 use mathlib.Core.Logic.{inl, inr}
 use mathlib.Core.List.{List, [], _∷_}
 use Prim.Native.Nat.{ℕ, _*_}
-use Rattle.code.specs.Record.{TrackSet, Shape, Cells, Good, Same}
-use Rattle.code.specs.Image.{image-size, cells}
+use Rattle.code.specs.Record.{TrackSet, Shape, Cells}
+use Rattle.code.specs.Image.{cells}
 use Rattle.code.specs.Payload.{payload-size}
 use Rattle.code.specs.Reach.{Extra, AtMostOne}
 use Rattle.code.specs.Numbers.{Check, First, Passed}
-use Rattle.code.specs.Calls.{Result, Refused, Answered, Stays, Encodes, ReadOrNot, mended, Mended, Shown}
+use Rattle.code.specs.Calls.{Result, Answered, Encodes, ReadOrNot, mended, Mended, Shown}
 use Rattle.code.proofs.Payloads.{payload-fixed, same-payload}
 use Rattle.code.proofs.Places.{cell-lt, same-bytes, same-output}
 

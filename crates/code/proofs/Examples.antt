@@ -1,22 +1,22 @@
 -- The examples of document 01 that are marked P hold.
-use mathlib.Core.Path.{_≡_, refl, sym, ap, _∙_}
+use mathlib.Core.Path.{_≡_, refl, sym, _∙_}
 use mathlib.Core.Logic.{_⊎_, inl, inr, ⊎-elim}
 use mathlib.Core.Bool.{Bool, true, false, _&&_, _||_, not, true≢false}
 use mathlib.Core.List.{List, [], _∷_, _++_}
-use Prim.Native.Nat.{ℕ, zero, suc, _+_, _*_, _/_, _%_, _^_, _<_, _≤_}
+use Prim.Native.Nat.{ℕ, zero, suc, _+_, _*_, _%_, _^_, _<_, _≤_}
 use native.Mathlib.Nat.{zero-div}
 use native.Mathlib.Omega.{arith}
 use borrow.Author.Tests.{eqb-true}
-use lib.Dec.{T, eqb, ltb, leb, eqb→eq, ltb→lt}
+use lib.Dec.{T, eqb, ltb, eqb→eq, ltb→lt}
 use lib.ListN.{length, getD, drop, replicate, List·getD-append}
-use Rattle.code.specs.Record.{TrackSet, A, B, Shape, base, data-tracks, tracks, track-length, Cells, back, sum, diagonal, vertical, Good, Same}
-use Rattle.code.specs.Image.{track-number, image-size, cells}
+use Rattle.code.specs.Record.{TrackSet, A, B, base, data-tracks, tracks, Cells, back, sum, diagonal, vertical, Good, Same}
+use Rattle.code.specs.Image.{track-number, cells}
 use Rattle.code.specs.Payload.{digits, payload-index, payload-byte, Carries}
 use Rattle.code.specs.Flags.{TrackFlags, whole, word-flags, flag-count, AgreeOff, Within}
-use Rattle.code.specs.Reach.{look-up, reach-code, flags-code, Extra, none, extra, size, is, most-in, most, Choice, Allowed, with-extras, InReach}
+use Rattle.code.specs.Reach.{look-up, reach-code, flags-code, Extra, none, extra, is, most-in, most, Choice, Allowed, with-extras, InReach}
 use Rattle.code.specs.Numbers.{Check, First, Passed, first-bad}
-use Rattle.code.specs.Calls.{Result, plain, mended, Found, NotFound, changed-in, changed-cells, changed-mask, changed-extra, repair-checks, Refused, Mended}
-use Rattle.code.specs.Examples.{ones, Example, good, encode, repair, trace, refuse, Holds, Hold, examples, rest-of-128, answer-0, a, b}
+use Rattle.code.specs.Calls.{Result, plain, mended, Found, NotFound, changed-in, changed-cells, changed-mask, changed-extra, repair-checks, Refused}
+use Rattle.code.specs.Examples.{ones, good, encode, repair, trace, Holds, Hold, examples, rest-of-128, answer-0, a, b}
 use Rattle.code.proofs.Codes.{closed-within}
 use Rattle.code.proofs.Digits.{digits-same}
 use Rattle.code.proofs.Patterns.{neither}
@@ -27,7 +27,7 @@ use Rattle.code.proofs.Linear.{same-sym, good-same, good-blank, blank}
 use Rattle.code.proofs.Numbers.{first-bad-none, first-passed}
 use Rattle.code.proofs.Spots.{spot, spots, length-ones, ones-bit, ones-cells, image-cells, ones-stay}
 use Rattle.code.proofs.Table.{and-left, and-right}
-use Rattle.code.proofs.Tests.{every, every-at, both-sets, both-at, good-test, tested-good}
+use Rattle.code.proofs.Tests.{every, every-at, both-sets, both-at, tested-good}
 
 abbrev flags-of : ℕ → TrackFlags
 flags-of word = word-flags (base 1) word

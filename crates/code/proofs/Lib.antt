@@ -29,6 +29,7 @@ pub mod Masks
 pub mod Demands
 pub mod Values
 pub mod Extras
+pub mod Mending
 pub mod Supply
 pub mod Tests
 pub mod Spots

@@ -13,7 +13,7 @@ use Rattle.code.specs.Record.{TrackSet, A, B, Shape, tracks, track-lengt
 use Rattle.code.specs.Image.{track-number, all-tracks}
 use Rattle.code.specs.Flags.{TrackFlags, whole, word-flags, bit, flag-count, AgreeOff}
 use Rattle.code.specs.Reach.{pick}
-use Rattle.code.specs.Calls.{differ, changed-in, over-tracks, changed-cells, mask-bit, changed-mask}
+use Rattle.code.specs.Calls.{differ, changed-in, changed-cells, mask-bit, changed-mask}
 use Rattle.code.specs.Supply.{Differ}
 use Rattle.code.proofs.Places.{number-lt}
 use Rattle.code.proofs.Sums.{sum-same, sum-zero, sum-le}

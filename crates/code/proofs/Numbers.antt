@@ -49,20 +49,10 @@ pub first-passed : (cs : List {1} Check) (right : Check → Type 0) (rest : Type
 first-passed [] right rest p r = r
 first-passed (c ∷ cs) right rest p r = inr (p .0, first-passed cs right rest (p .1) r)
 
--- Past checks that do not apply, the rest is what is said.
-pub passed-on : (cs : List {1} Check) (right : Check → Type 0) (rest : Type 0) → Passed cs → First cs right rest → rest
-passed-on [] right rest p f = f
-passed-on (c ∷ cs) right rest p (inl a) = absurd (p .0 (a .0))
-passed-on (c ∷ cs) right rest p (inr a) = passed-on cs right rest (p .1) (a .1)
-
 -- Of two lists one after the other, both are passed.
 pub passed-both : (cs ds : List {1} Check) → Passed (cs ++ ds) → Passed cs × Passed ds
 passed-both [] ds p = (tt, p)
 passed-both (c ∷ cs) ds p = let q = passed-both cs ds (p .1) in ((p .0, q .0), q .1)
-
-pub passed-append : (cs ds : List {1} Check) → Passed cs → Passed ds → Passed (cs ++ ds)
-passed-append [] ds p q = q
-passed-append (c ∷ cs) ds p q = (p .0, passed-append cs ds (p .1) q)
 
 -- So is the last.
 pub passed-last : (cs : List {1} Check) (c : Check) → Passed (cs ++ (c ∷ [])) → ¬ c .applies

@@ -8,11 +8,11 @@ use lib.Dec.{eqb}
 use borrow.Author.Tests.{eq-eqb, ne-eqb}
 use Rattle.code.specs.Record.{TrackSet, A, B, closed-tail, Shape, tracks, Cells, sum, Good, Same}
 use Rattle.code.specs.Flags.{TrackFlags, whole, bit, flag-count, AgreeOff, Within}
-use Rattle.code.specs.Reach.{Extra, none, extra, size, is, Choice, with-extras, InReach, flags-code, AtMostOne}
+use Rattle.code.specs.Reach.{Extra, none, extra, size, is, Choice, with-extras, InReach, AtMostOne}
 use Rattle.code.proofs.Sums.{sum-le, sum-add, sum-zero, sum-one}
 use Rattle.code.proofs.Patterns.{neither}
 use Rattle.code.proofs.Unique.{unique-tracks}
-use Rattle.code.proofs.Codes.{code-room, closed-within}
+use Rattle.code.proofs.Codes.{Room, closed-within}
 
 -- ## Agreement
 
@@ -68,13 +68,11 @@ count-extras sh f e s = omega (
   one-extra (tracks sh s) (e s),
 )
 
--- For every code of the table two choices stay within the limit, so at most one good record is in reach.
-pub reached-unique : (sh : Shape) (f : TrackFlags) (z : Cells) → sh .closing ≡ closed-tail → (flags-code sh f ≡ 0 → ⊥) →
-    AtMostOne sh (InReach sh (flags-code sh f) f z)
-unfolding flags-code
-reached-unique sh f z c n x y gx gy rx ry =
-    let room = code-room _ _ n in
-    reached-within sh _ f z x y gx gy rx ry
+-- Where a code leaves room for two choices, at most one good record is in reach.
+pub reached-unique : (sh : Shape) (code : ℕ) (f : TrackFlags) (z : Cells) → sh .closing ≡ closed-tail → Room code (flag-count sh f A) (flag-count sh f B) →
+    AtMostOne sh (InReach sh code f z)
+reached-unique sh code f z c room x y gx gy rx ry =
+    reached-within sh code f z x y gx gy rx ry
     (closed-within sh both c
     (omega (arith, counts A, rx .allowed .in-set A, ry .allowed .in-set A))
     (omega (arith, counts B, rx .allowed .in-set B, ry .allowed .in-set B))

@@ -1,12 +1,11 @@
 -- What document 01 says of the values that repair and tracing return, for any shape, checks and records that count as near.
 use mathlib.Core.Path.{_≡_, refl, sym, ap, _∙_}
 use mathlib.Core.Logic.{inl, inr, _≢_}
-use mathlib.Core.Bool.{Bool, true, false, _||_, true≢false}
+use mathlib.Core.Bool.{Bool, true, false, true≢false}
 use mathlib.Core.List.{List}
-use Prim.Native.Nat.{ℕ, _+_, _*_, _^_, _<_, _≤_}
+use Prim.Native.Nat.{ℕ, _+_, _*_, _<_, _≤_}
 use native.Mathlib.Nat.{mul-le-mul-left}
 use native.Mathlib.Omega.{arith}
-use lib.Dec.{eqb}
 use lib.Pow.{pow-pos}
 use borrow.Author.Tests.{eqb-true}
 use Rattle.code.specs.Record.{TrackSet, A, B, Shape, tracks, track-length, Cells}
@@ -18,7 +17,7 @@ use Rattle.code.specs.Calls.{Result, plain, Answered, changed-in, change
 use Rattle.code.specs.Supply.{extra-in, OnlyChanged, Values}
 use Rattle.code.proofs.Masks.{unchanged-in, changed-cells-le, mask-small}
 use Rattle.code.proofs.Named.{ChangedTrack, named-changed, named-none}
-use Rattle.code.proofs.Numbers.{Each, each-map, Avoids, answered}
+use Rattle.code.proofs.Numbers.{each-map, Avoids, answered}
 use Rattle.code.proofs.Reached.{count-extras}
 
 -- y differs from x in the flagged tracks and the extras of a choice, in `allowed` tracks at the most.

@@ -4,7 +4,7 @@ use mathlib.Core.List.{List, [], _∷_, _++_}
 use Prim.Native.Nat.{ℕ, _+_, _*_, _^_, _≤_}
 use lib.ListN.{length, drop, set, replicate}
 use Rattle.code.specs.Record.{A, B, base, track-length, Good}
-use Rattle.code.specs.Image.{track-number, image-size, cells}
+use Rattle.code.specs.Image.{track-number, cells}
 use Rattle.code.specs.Reach.{Extra, none, extra}
 use Rattle.code.specs.Numbers.{first-bad}
 use Rattle.code.specs.Calls.{Result, plain}

@@ -1,9 +1,8 @@
 -- Document 01, "Numbers, in checking order".
 use mathlib.Core.Path.{_≡_}
 use mathlib.Core.Logic.{_⊎_, _≢_}
-use mathlib.Core.Bool.{Bool}
 use mathlib.Core.List.{List, [], _∷_, _++_}
-use Prim.Native.Nat.{ℕ, zero, suc, _^_, _<_, _≤_}
+use Prim.Native.Nat.{ℕ, suc, _^_, _<_, _≤_}
 use lib.ListN.{length}
 use lib.Dec.{ltb}
 use Rattle.code.specs.Record.{Shape}

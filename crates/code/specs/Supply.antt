@@ -7,11 +7,11 @@ use mathlib.Core.List.{List, [], _∷_}
 use Prim.Native.Nat.{ℕ, _+_, _*_, _^_, _<_, _≤_}
 use lib.ListN.{getD}
 use Rattle.code.specs.Record.{TrackSet, A, B, Shape, base, tracks, track-length, Cells, Good, Same}
-use Rattle.code.specs.Image.{track-number, all-tracks, cells}
+use Rattle.code.specs.Image.{track-number, all-tracks, image-size, cells}
 use Rattle.code.specs.Payload.{payload-size, Carries}
-use Rattle.code.specs.Flags.{TrackFlags, whole, word-flags, flag-count, Within}
-use Rattle.code.specs.Reach.{flags-code, most, Extra, none, extra, AtMostOne, Ambiguous}
-use Rattle.code.specs.Calls.{Result, plain, changed-in, changed-cells, RepairNear, TraceNear}
+use Rattle.code.specs.Flags.{TrackFlags, whole, word-flags, flag-count}
+use Rattle.code.specs.Reach.{most, Extra, none, extra, AtMostOne}
+use Rattle.code.specs.Calls.{Result, plain, Stays, changed-in, changed-cells, RepairNear, TraceNear}
 use Rattle.code.specs.Contracts.{Encoded, WasRead, Repaired, Traced}
 
 -- The call met none of these numbers.
@@ -49,6 +49,18 @@ OwnAnswer (encode n payload before) k = k ≤ 3
 OwnAnswer (read n image before) k = (k ≤ 4) ⊎ (k ≡ 7)
 OwnAnswer (mend way n flags image before) k = k ≤ 7
 
+-- The size of its result.
+abbrev pub result-size : Input → ℕ
+result-size (encode n payload before) = image-size (base n)
+result-size (read n image before) = payload-size (base n) n
+result-size (mend way n flags image before) = image-size (base n)
+
+-- "Number 7 leaves the reader's output as it came; after repair or tracing the output's first 18 × L bytes are a copy of the image"
+abbrev pub LeftBy7 : Input → List ℕ → Type 0
+LeftBy7 (encode n payload before) after = after ≡ before
+LeftBy7 (read n image before) after = after ≡ before
+LeftBy7 (mend way n flags image before) after = (i : ℕ) → i < image-size (base n) → getD after i 0 ≡ getD image i 0
+
 pub record Point1 (input : Input) (r : Result) (after : List ℕ) : Type 0 where
   -- "The answer to any call but the track view is 0 or one of the seven numbers, for every block count, length, cell value and flag word."
   pub answer : r .answer ≤ 7
@@ -57,8 +69,11 @@ pub record Point1 (input : Input) (r : Result) (after : List ℕ) : Type 0 where
   -- crates/axp_c end, and meet `Right` without a `requires`, is what the checker proves of each of them.
   -- "and beside each number the document fixes every byte of the output."
   pub fixed : (other : Result) (bytes : List ℕ) → Right input other bytes → (other ≡ r) × (bytes ≡ after)
-  -- "Numbers 1 to 6 leave the output as it came." "The detail is 0 except for number 4." (Document 01.)
+  -- Document 01: "Numbers 1 to 6 leave the output as it came." "Number 7 leaves …" "With answer 0 the result fills the first bytes and
+  -- later bytes stay." "The detail is 0 except for number 4."
   pub untouched : 1 ≤ r .answer → r .answer ≤ 6 → after ≡ output-before input
+  pub left-by-7 : r .answer ≡ 7 → LeftBy7 input after
+  pub later : Stays (result-size input) (output-before input) after
   pub no-detail : r .answer ≢ 4 → r .detail ≡ 0
 
 -- ## Point 2
@@ -80,10 +95,10 @@ pub record Point2 (sh : Shape) (n : ℕ) (encoded was-read : List ℕ → List �
 -- ## Point 3
 
 -- Which records a call may hand out: those that differ from what was read only in flagged tracks and, with tracing, in the further
--- tracks that the table allows.
-abbrev pub near-by : Mending → Shape → TrackFlags → List ℕ → Cells → Type 0
-near-by repair sh f image = RepairNear sh (whole f) image
-near-by trace sh f image = TraceNear sh (flags-code sh f) f image
+-- tracks that a code allows.
+abbrev pub near-by : Mending → Shape → ℕ → TrackFlags → List ℕ → Cells → Type 0
+near-by repair sh code f image = RepairNear sh (whole f) image
+near-by trace sh code f image = TraceNear sh code f image
 
 -- Some cell of track t differs.
 pub record Differ (sh : Shape) (x y : Cells) (s : TrackSet) (t : ℕ) : Type 0 where
@@ -119,10 +134,10 @@ abbrev pub extra-in : Result → TrackSet → Extra
 extra-in r A = r .extra-a
 extra-in r B = r .extra-b
 
--- The tracks allowed: the flagged ones and, with tracing, the extras of the table's code.
-abbrev pub tracks-allowed : Mending → Shape → TrackFlags → ℕ
-tracks-allowed repair sh f = flag-count sh f A + flag-count sh f B
-tracks-allowed trace sh f = flag-count sh f A + flag-count sh f B + most (flags-code sh f)
+-- The tracks allowed: the flagged ones and, with tracing, the extras of a code.
+abbrev pub tracks-allowed : Mending → Shape → ℕ → TrackFlags → ℕ
+tracks-allowed repair sh code f = flag-count sh f A + flag-count sh f B
+tracks-allowed trace sh code f = flag-count sh f A + flag-count sh f B + most code
 
 -- Track number g is the only changed track of a set outside the flags.
 pub record OnlyChanged (sh : Shape) (f : TrackFlags) (x y : Cells) (s : TrackSet) (g : ℕ) : Type 0 where

@@ -7,7 +7,7 @@ use native.Mathlib.Omega.{arith}
 use lib.ListN.{length, take, drop}
 use Rattle.code.specs.Record.{Shape, track-length, Good}
 use Rattle.code.specs.Image.{all-tracks, image-size, cells}
-use Rattle.code.specs.Numbers.{Check, input-checks, Passed}
+use Rattle.code.specs.Numbers.{input-checks, Passed}
 use Rattle.code.specs.Calls.{
   Result,
   plain,

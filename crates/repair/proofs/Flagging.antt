@@ -14,7 +14,7 @@ use Rattle.code.specs.Reach.{pick, reach-code, flags-code, Extra, extra, is, Ch
 use Rattle.code.specs.Calls.{changed-in, changed-extra}
 use Rattle.code.specs.Sizes.{shape, Small}
 use Rattle.code.specs.declared.Sizes.{Sizes}
-use Rattle.code.proofs.Codes.{code-room, closed-within}
+use Rattle.code.proofs.Codes.{flags-room, closed-within}
 use Rattle.code.proofs.Places.{number-lt}
 use Rattle.code.proofs.Reached.{count-extras}
 use Rattle.code.proofs.Sums.{sum-same}
@@ -88,9 +88,8 @@ reach-same sh f g same code x y r = record {
 -- Flags with the extras of a choice that their code allows are within the limit.
 pub allowed-within : (sh : Shape) (f : TrackFlags) (e : Choice) → sh .closing ≡ closed-tail → flags-code sh f ≢ 0 → Allowed sh (flags-code sh f) f e →
     Within sh (with-extras f e)
-unfolding flags-code
 allowed-within sh f e c n a =
-    let room = code-room _ _ n in
+    let room = flags-room sh f n in
     closed-within sh (with-extras f e) c
     (omega (arith, count-extras sh f e A, a .in-set A))
     (omega (arith, count-extras sh f e B, a .in-set B))

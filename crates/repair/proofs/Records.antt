@@ -24,7 +24,6 @@ use Rattle.solver.specs.Solver.{marked}
 use Rattle.repair.specs.declared.Hit.{Hit}
 use Rattle.repair.specs.Steps.{
   OnlyMarked,
-  changed-at,
   named-at,
   Workable,
   Worked,

@@ -1,5 +1,5 @@
 -- `check_image`: the numbers of `check_sizes`, then 4 with the index of the first bad cell.
-use mathlib.Core.Path.{sym, ap, _∙_}
+use mathlib.Core.Path.{ap, _∙_}
 use mathlib.Core.List.{[], _∷_}
 use native.Mathlib.Omega.{arith}
 use denote.Ref.{now}

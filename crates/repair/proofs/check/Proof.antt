@@ -3,7 +3,6 @@ use mathlib.Core.List.{[], _∷_}
 use Prim.Native.Nat.{_+_, _*_}
 use native.Mathlib.Omega.{arith}
 use denote.Ref.{now}
-use lib.ListN.{length}
 use Rattle.code.specs.Record.{base}
 use Rattle.code.specs.Numbers.{image-checks, flag-check, Passed}
 use Rattle.checks.proofs.Refusing.{refuses, next-refuses, next-passes, passes}
