@@ -8,7 +8,7 @@ use native.Mathlib.Omega.{arith}
 use lib.ListN.{length, getD}
 use Rattle.code.specs.Numbers.{Check, input-checks, size-checks, image-checks, room-check, cell-check, first-bad, First, Passed}
 use Rattle.code.specs.Calls.{Result, plain, Refused, Answered}
-use Rattle.code.proofs.Numbers.{first-bad-before, first-after, passed-both, Avoids}
+use Rattle.code.proofs.Numbers.{first-bad-before, first-after, passed-both, Avoids, answer-of}
 use Rattle.track.proofs.Cells.{every}
 use Rattle.checks.specs.First.{FirstAnswer}
 
@@ -17,7 +17,7 @@ use Rattle.checks.specs.First.{FirstAnswer}
 -- It is the first that applies of a longer list, too, and says what is right.
 pub refuses : (cs ds : List {1} Check) (r : Result) (right : Check → Type 0) (rest : Type 0) → ((c : Check) → r ≡ plain (c .number) (c .detail) → right c) →
     FirstAnswer cs r → r .answer ≢ 0 → First (cs ++ ds) right rest
-refuses [] ds r right rest h e d = absurd (d (ap (λ (q : Result). q .answer) e))
+refuses [] ds r right rest h e d = absurd (d (ap answer-of e))
 refuses (c ∷ cs) ds r right rest h (inl a) d = inl (a .0, h c (a .1))
 refuses (c ∷ cs) ds r right rest h (inr a) d = inr (a .0, refuses cs ds r right rest h (a .1) d)
 
@@ -40,7 +40,7 @@ module _ (cs : List {1} Check) (c : Check) (r : Result) (p : Passed cs) where
 -- With 0 no check applies.
 pub passes : (cs : List {1} Check) (r : Result) → Avoids 0 cs → FirstAnswer cs r → r .answer ≡ 0 → Passed cs
 passes [] r v f e = tt
-passes (c ∷ cs) r v (inl a) e = absurd (v .0 (sym (ap (λ (q : Result). q .answer) (a .1)) ∙ e))
+passes (c ∷ cs) r v (inl a) e = absurd (v .0 (sym (ap answer-of (a .1)) ∙ e))
 passes (c ∷ cs) r v (inr a) e = (a .0, passes cs r (v .1) (a .1) e)
 
 -- The count and the lengths are right.

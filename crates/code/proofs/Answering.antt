@@ -11,10 +11,7 @@ use Rattle.code.specs.Payload.{payload-size}
 use Rattle.code.specs.Reach.{Extra}
 use Rattle.code.specs.Numbers.{Check, cell-check, size-checks, image-checks}
 use Rattle.code.specs.Calls.{Result, plain, Answered, Stays, Encodes, ReadOrNot, Mended}
-use Rattle.code.proofs.Numbers.{Each, each-append, answered}
-
-abbrev answer-of : Result → ℕ
-answer-of r = r .answer
+use Rattle.code.proofs.Numbers.{Each, each-append, answered, answer-of}
 
 abbrev detail-of : Result → ℕ
 detail-of r = r .detail

@@ -13,11 +13,8 @@ use Rattle.code.specs.Numbers.{Check, Decides}
 use Rattle.code.specs.Calls.{Result, Refused, Answered, changed-cells, Mended}
 use Rattle.code.specs.Supply.{Differ, Point3}
 use Rattle.code.proofs.Masks.{mask-differ}
-use Rattle.code.proofs.Numbers.{first-append, Avoids, unrefused}
+use Rattle.code.proofs.Numbers.{first-append, Avoids, unrefused, answer-of}
 use Rattle.code.proofs.Places.{cell-lt}
-
-abbrev answer-of : Result → ℕ
-answer-of r = r .answer
 
 not-6 : (k : ℕ) → (k ≡ 0) ⊎ (k ≡ 7) → k ≢ 6
 not-6 k (inl z) e = omega arith

@@ -71,6 +71,9 @@ first-after (c ∷ cs) ds right rest p f = inr (p .0, first-after cs ds right re
 
 -- ## What a call answers
 
+abbrev pub answer-of : Result → ℕ
+answer-of r = r .answer
+
 -- Every check of a list has this.
 abbrev pub Each : (Check → Type 0) → List {1} Check → Type 0
 Each P [] = Unit {0}
@@ -103,7 +106,7 @@ pub record Through (cs : List {1} Check) (rest : Type 0) : Type 0 where
 pub unrefused : (cs : List {1} Check) (r : Result) (before after : List ℕ) (rest : Type 0) → Avoids (r .answer) cs →
     First cs (Refused r before after) rest → Through cs rest
 unrefused [] r before after rest v f = record { passed = tt; done = f }
-unrefused (c ∷ cs) r before after rest v (inl a) = absurd (v .0 (sym (ap (λ (q : Result). q .answer) (a .1 .result))))
+unrefused (c ∷ cs) r before after rest v (inl a) = absurd (v .0 (sym (ap answer-of (a .1 .result))))
 unrefused (c ∷ cs) r before after rest v (inr a) =
     let t = unrefused cs r before after rest (v .1) (a .1) in
     record { passed = (a .0, t .passed); done = t .done }

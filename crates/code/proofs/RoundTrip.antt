@@ -12,7 +12,7 @@ use Rattle.code.specs.Numbers.{Check, cell-check, Decides, Passed}
 use Rattle.code.specs.Calls.{Result, plain, Refused, Answered, Encodes, Reads, ReadOrNot}
 use Rattle.code.specs.Supply.{Point2}
 use Rattle.code.proofs.Linear.{same-sym, good-same}
-use Rattle.code.proofs.Numbers.{first-bad-none, first-append, each-append, Avoids, unrefused}
+use Rattle.code.proofs.Numbers.{first-bad-none, first-append, each-append, Avoids, unrefused, answer-of}
 use Rattle.code.proofs.Payloads.{payload-fixed, same-payload, carries-same, carried-as}
 use Rattle.code.proofs.Places.{Place, place}
 
@@ -34,7 +34,7 @@ module _ (sh : Shape) (n : ℕ) (image before : List ℕ) (r : Result) (after : 
   -- No other image is.
   pub read-0 : ReadOrNot sh n image before r after → r .answer ≡ 0 → Good sh (cells sh image) × Reads sh n image before r after
   read-0 (inl a) z = a
-  read-0 (inr a) z = absurd (omega (arith, ap (λ (q : Result). q .answer) (a .1 .result)))
+  read-0 (inr a) z = absurd (omega (arith, ap answer-of (a .1 .result)))
 
 -- ## Both
 
@@ -91,4 +91,4 @@ module _ (sh : Shape) (n : ℕ) (encode-checks read-checks : List ℕ → List �
       past : (image before : List ℕ) (r : Result) (after : List ℕ) → length image ≡ image-size sh → Good sh (cells sh image) →
           Decides (cell-check image .applies) (Refused r before after (cell-check image)) (ReadOrNot sh n image before r after) → r .answer ≡ 0
       past image before r after whole good (inl a) = absurd (no-bad-cell sh image whole good (a .0))
-      past image before r after whole good (inr a) = ap (λ (q : Result). q .answer) (read-good sh n image before r after (a .1) good .result)
+      past image before r after whole good (inr a) = ap answer-of (read-good sh n image before r after (a .1) good .result)
