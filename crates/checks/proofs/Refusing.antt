@@ -3,12 +3,12 @@ use mathlib.Core.Path.{_≡_, refl, sym, ap, _∙_}
 use mathlib.Core.Logic.{_≢_, inl, inr, by-cases}
 use mathlib.Core.List.{List, [], _∷_, _++_}
 use Prim.Native.Nat.{ℕ, _<_, _≤_}
-use native.Mathlib.Decide.{decLt, ℕ-discrete}
+use native.Mathlib.Decide.{decLt}
 use native.Mathlib.Omega.{arith}
 use lib.ListN.{length, getD}
 use Rattle.code.specs.Numbers.{Check, input-checks, size-checks, image-checks, room-check, cell-check, first-bad, First, Passed}
 use Rattle.code.specs.Calls.{Result, plain, Refused, Answered}
-use Rattle.code.proofs.Numbers.{first-bad-before, first-after, passed-both, Avoids, answer-of}
+use Rattle.code.proofs.Numbers.{first-bad-before, passed-few, passed-exact, first-after, passed-both, Avoids, answer-of}
 use Rattle.track.proofs.Cells.{every}
 use Rattle.checks.specs.First.{FirstAnswer}
 
@@ -43,14 +43,19 @@ passes [] r v f e = tt
 passes (c ∷ cs) r v (inl a) e = absurd (v .0 (sym (ap answer-of (a .1)) ∙ e))
 passes (c ∷ cs) r v (inr a) e = (a .0, passes cs r (v .1) (a .1) e)
 
+-- Of the lists that calls share.
+pub input-passes : (n wanted input : ℕ) (r : Result) → FirstAnswer (input-checks n wanted input) r → r .answer ≡ 0 → Passed (input-checks n wanted input)
+input-passes n wanted input r = passes (input-checks n wanted input) r (omega arith)
+
+pub size-passes : (n wanted input size output : ℕ) (r : Result) → FirstAnswer (size-checks n wanted input size output) r → r .answer ≡ 0 →
+    Passed (size-checks n wanted input size output)
+size-passes n wanted input size output r = passes (size-checks n wanted input size output) r (omega arith)
+
+pub image-passes : (n wanted : ℕ) (image : List ℕ) (size output : ℕ) (r : Result) → FirstAnswer (image-checks n wanted image size output) r → r .answer ≡ 0 →
+    Passed (image-checks n wanted image size output)
+image-passes n wanted image size output r = passes (image-checks n wanted image size output) r (omega arith)
+
 -- The count and the lengths are right.
-module _ (n wanted input : ℕ) (p : Passed (input-checks n wanted input)) where
-  pub few : n ≤ 256
-  few = by-cases (decLt 256 n) (λ h. absurd (p .0 (inr h))) (λ h. omega arith)
-
-  pub exact : input ≡ wanted
-  exact = by-cases (ℕ-discrete input wanted) (λ e. e) (λ d. absurd (p .1 .0 d))
-
 pub record SizesRight (n wanted input size output : ℕ) : Type 0 where
   pub few : n ≤ 256
   pub exact : input ≡ wanted
@@ -60,8 +65,8 @@ pub sizes-right : (n wanted input size output : ℕ) → Passed (size-checks n w
 sizes-right n wanted input size output p =
     let q = passed-both (input-checks n wanted input) (room-check size output ∷ []) p in
     record {
-      few = few n wanted input (q .0);
-      exact = exact n wanted input (q .0);
+      few = passed-few n wanted input (q .0);
+      exact = passed-exact n wanted input (q .0);
       fits = by-cases (decLt output size) (λ h. absurd (q .1 .0 h)) (λ h. omega arith);
     }
 

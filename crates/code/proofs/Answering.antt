@@ -54,23 +54,14 @@ module _ (own : ℕ → Type 0) (seven : List ℕ → Type 0) (size : ℕ) (befo
   images n wanted image result output a b c d = each-append Refusal (size-checks n wanted (length image) result output) (cell-check image ∷ [])
       (sizes n wanted (length image) result output a b c) (refusal 4 _ (omega arith) d (λ e. absurd (e refl)), tt)
 
-  -- 0 and 7.
-  zero : (r : Result) (after : List ℕ) → own 0 → r .answer ≡ 0 → r .detail ≡ 0 → Stays size before after → Leaves own seven size before r after
-  zero r after o e d s = record {
+  -- An answer past the checks: 0 or 7.
+  past : (r : Result) (after : List ℕ) (k : ℕ) → k ≤ 7 → (1 ≤ k → k ≤ 6 → ⊥) → r .answer ≡ k → r .detail ≡ 0 → own k → (k ≡ 7 → seven after) →
+      Stays size before after → Leaves own seven size before r after
+  past r after k l ends e d o left s = record {
     answer = omega arith;
     own-answer = rw e o;
-    untouched = λ p q. absurd (omega arith);
-    at-seven = λ z. absurd (omega arith);
-    later = s;
-    no-detail = λ n. d;
-  }
-
-  at-7 : (r : Result) (after : List ℕ) → own 7 → r .answer ≡ 7 → r .detail ≡ 0 → seven after → Stays size before after → Leaves own seven size before r after
-  at-7 r after o e d l s = record {
-    answer = omega arith;
-    own-answer = rw e o;
-    untouched = λ p q. absurd (omega arith);
-    at-seven = λ z. l;
+    untouched = λ p q. absurd (ends (omega arith) (omega arith));
+    at-seven = λ z. left (omega arith);
     later = s;
     no-detail = λ n. d;
   }
@@ -85,15 +76,15 @@ module _ (sh : Shape) (own : ℕ → Type 0) (cs : List {1} Check) (before : Lis
   pub encode-leaves : (n : ℕ) (payload : List ℕ) (seven : List ℕ → Type 0) → own 0 → Each (Refusal own seven (image-size sh) before) cs →
       Answered cs (Encodes sh n payload before) before r after → Leaves own seven (image-size sh) before r after
   encode-leaves n payload seven o each = answered (Leaves own seven (image-size sh) before) cs (Encodes sh n payload before) before r after each
-      (λ a. zero own seven (image-size sh) before r after o (ap answer-of (a .result)) (ap detail-of (a .result)) (a .stays))
+      (λ a. past own seven (image-size sh) before r after 0 (omega arith) (λ p q. omega arith) (ap answer-of (a .result)) (ap detail-of (a .result)) o (λ z. absurd (omega arith)) (a .stays))
 
   pub read-leaves : (n : ℕ) (image : List ℕ) → own 0 → own 7 → Each (Refusal own (λ bytes. bytes ≡ before) (payload-size sh n) before) cs →
       Answered cs (ReadOrNot sh n image before) before r after → Leaves own (λ bytes. bytes ≡ before) (payload-size sh n) before r after
   read-leaves n image o p each = answered (Leaves own (λ bytes. bytes ≡ before) (payload-size sh n) before) cs (ReadOrNot sh n image before) before r after each go
     where
       go : ReadOrNot sh n image before r after → Leaves own (λ bytes. bytes ≡ before) (payload-size sh n) before r after
-      go (inl a) = zero own (λ bytes. bytes ≡ before) (payload-size sh n) before r after o (ap answer-of (a .1 .result)) (ap detail-of (a .1 .result)) (a .1 .stays)
-      go (inr a) = at-7 own (λ bytes. bytes ≡ before) (payload-size sh n) before r after p (ap answer-of (a .1 .result)) (ap detail-of (a .1 .result)) (a .1 .output)
+      go (inl a) = past own (λ bytes. bytes ≡ before) (payload-size sh n) before r after 0 (omega arith) (λ p q. omega arith) (ap answer-of (a .1 .result)) (ap detail-of (a .1 .result)) o (λ z. absurd (omega arith)) (a .1 .stays)
+      go (inr a) = past own (λ bytes. bytes ≡ before) (payload-size sh n) before r after 7 (omega arith) (λ p q. omega arith) (ap answer-of (a .1 .result)) (ap detail-of (a .1 .result)) p (λ z. a .1 .output)
           (rw (a .1 .output) (unchanged (payload-size sh n) before))
 
   pub mend-leaves : (near : Cells → Type 0) (named : List ℕ → TrackSet → Extra) (image : List ℕ) → own 0 → own 7 →
@@ -102,5 +93,6 @@ module _ (sh : Shape) (own : ℕ → Type 0) (cs : List {1} Check) (before : Lis
   mend-leaves near named image o p each = answered (Leaves own (Copy sh image) (image-size sh) before) cs (Mended sh near named image before) before r after each go
     where
       go : Mended sh near named image before r after → Leaves own (Copy sh image) (image-size sh) before r after
-      go (inl a) = zero own (Copy sh image) (image-size sh) before r after o (ap answer-of (a .result)) (ap detail-of (a .result)) (a .stays)
-      go (inr a) = at-7 own (Copy sh image) (image-size sh) before r after p (ap answer-of (a .result)) (ap detail-of (a .result)) (a .copy) (a .stays)
+      go (inl a) = past own (Copy sh image) (image-size sh) before r after 0 (omega arith) (λ p q. omega arith) (ap answer-of (a .result)) (ap detail-of (a .result)) o (λ z. absurd (omega arith)) (a .stays)
+      go (inr a) = past own (Copy sh image) (image-size sh) before r after 7 (omega arith) (λ p q. omega arith) (ap answer-of (a .result)) (ap detail-of (a .result)) p (λ z. a .copy)
+          (a .stays)

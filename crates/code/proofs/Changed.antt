@@ -1,14 +1,14 @@
 -- Changed cells, mask and extras depend on the records' own cells alone.
-use mathlib.Core.Path.{_≡_, refl, ap, ap₂, _∙_}
-use mathlib.Core.Bool.{Bool, true, false, _&&_, not}
+use mathlib.Core.Path.{_≡_, refl, ap, ap₂}
+use mathlib.Core.Bool.{_&&_, not}
 use Prim.Native.Nat.{ℕ, zero, suc, _+_, _<_, _≤_}
 use native.Mathlib.Omega.{arith}
 use lib.Dec.{eqb}
-use Rattle.code.specs.Record.{TrackSet, A, B, Shape, tracks, track-length, Cells, sum, Same}
+use Rattle.code.specs.Record.{TrackSet, A, B, Shape, tracks, track-length, Cells, Same}
 use Rattle.code.specs.Image.{track-number}
 use Rattle.code.specs.Flags.{TrackFlags}
 use Rattle.code.specs.Reach.{pick, Extra, extra}
-use Rattle.code.specs.Calls.{Result, differ, changed-in, over-tracks, changed-cells, mask-bit, changed-mask, changed-extra, mended}
+use Rattle.code.specs.Calls.{differ, changed-in, over-tracks, changed-cells, mask-bit, changed-mask, changed-extra, mended}
 use Rattle.code.proofs.Sums.{sum-same}
 
 module _ (sh : Shape) (x x′ y y′ : Cells) (ex : Same sh x x′) (ey : Same sh y y′) where
@@ -30,12 +30,14 @@ module _ (sh : Shape) (x x′ y y′ : Cells) (ex : Same sh x x′) (ey : Same s
       (λ s t. mask-bit (track-number sh s t) (changed-in sh x′ y′ s t))
       (λ s t l. ap (mask-bit (track-number sh s t)) (changed-in-same s t l))
 
-  pub changed-extra-same : (f : TrackFlags) (s : TrackSet) (k : ℕ) → k ≤ tracks sh s → changed-extra sh f x y s k ≡ changed-extra sh f x′ y′ s k
+  -- Flags that say the same of the record's tracks name the same.
+  pub changed-extra-same : (f g : TrackFlags) (s : TrackSet) → ((t : ℕ) → t < tracks sh s → f s t ≡ g s t) → (k : ℕ) → k ≤ tracks sh s →
+      changed-extra sh f x y s k ≡ changed-extra sh g x′ y′ s k
   unfolding changed-extra
-  changed-extra-same f s zero l = refl
-  changed-extra-same f s (suc t) l = ap₂ (λ (k : ℕ) (e : Extra). pick (not (f s t) && not (eqb k 0)) (extra (track-number sh s t)) e)
-      (changed-in-same s t l)
-      (changed-extra-same f s t (omega arith))
+  changed-extra-same f g s e zero l = refl
+  changed-extra-same f g s e (suc t) l =
+      let rest = changed-extra-same f g s e t (omega arith) in
+      λ i. pick (not (e t l i) && not (eqb (changed-in-same s t l i) 0)) (extra (track-number sh s t)) (rest i)
 
   -- What repair and tracing return.
   pub mended-same : (named named′ : TrackSet → Extra) → ((s : TrackSet) → named s ≡ named′ s) → mended sh x y named ≡ mended sh x′ y′ named′

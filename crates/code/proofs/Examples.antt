@@ -144,7 +144,7 @@ trace-found flags u ins outs r few code allowed g agree e before h = first-passe
     (inl (found (InReach (base 1) (flags-code (base 1) (flags-of flags)) (flags-of flags) (cells (base 1) (ones ins))) _ (λ s. changed-extra (base 1) (flags-of flags) (spots ins) (spots outs) s (tracks (base 1) s)) ins outs before r h g
     (record { choice = in-a u; allowed = tested-allowed _ u (flags-of flags) allowed; agree = tested-agree _ ins outs before agree })
     (λ s. changed-extra-same (base 1) (spots ins) _ (spots outs) _ (same-sym (image-cells ins)) (same-sym (ones-cells outs (drop 414 before)))
-    (flags-of flags) s (tracks (base 1) s) (omega arith))
+    (flags-of flags) (flags-of flags) s (λ t l. refl) (tracks (base 1) s) (omega arith))
     e))
 
 -- A call that finds none: no good record is near.

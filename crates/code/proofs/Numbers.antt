@@ -1,16 +1,17 @@
 -- Laws of the checks: a list of bits has no bad cell, and checks that do not apply are passed by.
 use mathlib.Core.Path.{_≡_, refl, sym, ap}
-use mathlib.Core.Logic.{inl, inr, ⊎-elim, _≢_}
+use mathlib.Core.Logic.{inl, inr, ⊎-elim, _≢_, by-cases}
 use mathlib.Core.Bool.{Bool, true, false}
 use mathlib.Core.List.{List, [], _∷_, _++_}
 use Prim.Native.Nat.{ℕ, zero, suc, _+_, _<_, _≤_}
+use native.Mathlib.Decide.{decLt, ℕ-discrete}
 use native.Mathlib.Omega.{arith}
 use lib.Dec.{ltb}
 use lib.ListN.{length, getD}
 use borrow.Author.Tests.{lt-ltb, le-ltb, ltb-true}
 use Rattle.code.specs.Reach.{pick}
 use Rattle.code.specs.Calls.{Result, plain, Refused, Answered}
-use Rattle.code.specs.Numbers.{Check, count-check, First, Passed, first-bad}
+use Rattle.code.specs.Numbers.{Check, count-check, input-checks, First, Passed, first-bad}
 
 -- Where the first i cells are bits and cell i is not, the first bad cell is i.
 pub first-bad-at : (xs : List ℕ) (i : ℕ) → i < length xs → ((k : ℕ) → k < i → getD xs k 0 < 2) → 2 ≤ getD xs i 0 → first-bad xs ≡ i
@@ -43,6 +44,14 @@ first-bad-before (x ∷ xs) k h = go k (ltb x 2) refl h (first-bad-before xs)
 -- A count from 1 to 256 passes.
 pub counted : (n : ℕ) → n ≢ 0 → n ≤ 256 → ¬ count-check n .applies
 counted n some few = ⊎-elim some (λ many. omega arith)
+
+-- Where 1 and 2 do not apply, the count and the length are right.
+module _ (n wanted input : ℕ) (p : Passed (input-checks n wanted input)) where
+  pub passed-few : n ≤ 256
+  passed-few = by-cases (decLt 256 n) (λ h. absurd (p .0 (inr h))) (λ h. omega arith)
+
+  pub passed-exact : input ≡ wanted
+  passed-exact = by-cases (ℕ-discrete input wanted) (λ e. e) (λ d. absurd (p .1 .0 d))
 
 -- A list of checks that all do not apply says what the rest does.
 pub first-passed : (cs : List {1} Check) (right : Check → Type 0) (rest : Type 0) → Passed cs → rest → First cs right rest

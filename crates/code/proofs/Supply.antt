@@ -1,17 +1,16 @@
 -- The supply of document 01: whatever the contracts allow has the three points, and returns what the document says.
 use mathlib.Core.Path.{_≡_, refl, sym}
-use mathlib.Core.Logic.{inl, inr, by-cases}
+use mathlib.Core.Logic.{inl, inr}
 use mathlib.Core.List.{List, [], _∷_}
 use Prim.Native.Nat.{ℕ, _≤_}
-use native.Mathlib.Decide.{ℕ-discrete}
 use native.Mathlib.Omega.{arith}
 use lib.ListN.{length}
 use Rattle.code.specs.Record.{base}
 use Rattle.code.specs.Image.{image-size}
 use Rattle.code.specs.Payload.{payload-size}
-use Rattle.code.specs.Flags.{word-flags, Within}
-use Rattle.code.specs.Reach.{flags-code, Ambiguous}
-use Rattle.code.specs.Numbers.{flag-check, reach-check, size-checks, image-checks}
+use Rattle.code.specs.Flags.{word-flags}
+use Rattle.code.specs.Reach.{flags-code}
+use Rattle.code.specs.Numbers.{room-check, flag-check, reach-check, input-checks, size-checks, image-checks}
 use Rattle.code.specs.Calls.{
   Result,
   plain,
@@ -39,20 +38,19 @@ use Rattle.code.specs.Supply.{
   Point1,
   Point2,
   near-by,
-  Point3,
-  tracks-allowed,
-  Values,
+  MendPoint3,
+  MendValues,
 }
 use Rattle.code.proofs.Answering.{Leaves, Refusal, refusal, sizes, images, encode-leaves, read-leaves, mend-leaves}
 use Rattle.code.proofs.Determined.{Equal, encode-determined, read-determined}
 use Rattle.code.proofs.Extras.{ExtrasNumbered, encode-numbered, read-numbered, values-numbered}
 use Rattle.code.proofs.Mending.{names-by, Mends, mending-fixed, mending-demanded, mending-values}
-use Rattle.code.proofs.Numbers.{each-append}
+use Rattle.code.proofs.Numbers.{passed-exact, passed-both, each-append}
 use Rattle.code.proofs.RoundTrip.{round-trip}
 
 -- ## The contracts
 
--- The contracts of repair and tracing in that form.
+-- Repair and tracing are both of the form of proofs/Mending.
 mends : (way : Mending) (n flags : ℕ) (image before : List ℕ) (r : Result) (after : List ℕ) → Right (mend way n flags image before) r after →
     let f = word-flags (base n) flags in
     Answered (repair-checks (base n) n flags f image before) (Mends way (base n) (flags-code (base n) f) f image before) before r after
@@ -114,15 +112,12 @@ pub point-2 : (n : ℕ) → Point2 (base n) n (Encoded n) (WasRead n)
 point-2 n = round-trip (base n) n (encode-checks (base n) n) (λ image before. size-checks n (image-size (base n)) (length image) (payload-size (base n) n) (length before))
     (λ payload before. (λ e. omega arith, (λ e. omega arith, (λ e. omega arith, tt))))
     (λ image before k a b c. (λ e. a (sym e), (λ e. b (sym e), (λ e. c (sym e), tt))))
-    (λ image before p. by-cases (ℕ-discrete (length image) (image-size (base n))) (λ e. e) (λ d. absurd (p .1 .0 d)))
+    (λ image before p. passed-exact n (image-size (base n)) (length image) (passed-both (input-checks n (image-size (base n)) (length image)) (room-check (payload-size (base n) n) (length before) ∷ []) p .0))
 
 -- ## Point 3
 
 pub point-3 : (way : Mending) (n flags : ℕ) (image before : List ℕ) (r : Result) (after : List ℕ) → Right (mend way n flags image before) r after →
-    MetNone (1 ∷ 2 ∷ 3 ∷ 4 ∷ 5 ∷ []) r →
-    let sh = base n in
-    let f = word-flags sh flags in
-    Point3 sh (near-by way sh (flags-code sh f) f image) (Within sh f) (4 ≤ n) (Ambiguous sh f) image r after
+    MetNone (1 ∷ 2 ∷ 3 ∷ 4 ∷ 5 ∷ []) r → MendPoint3 way n flags image r after
 point-3 way n flags image before r after c u =
     mending-demanded way (base n) refl (word-flags (base n) flags) (early-checks (base n) n flags image (length before)) image before r after
     (mends way n flags image before r after c) (omega arith) (4 ≤ n) (λ l. omega arith)
@@ -130,9 +125,7 @@ point-3 way n flags image before r after c u =
 -- ## Values
 
 pub values : (way : Mending) (n flags : ℕ) (image before : List ℕ) (r : Result) (after : List ℕ) → Right (mend way n flags image before) r after →
-    let sh = base n in
-    let f = word-flags sh flags in
-    Values sh f (tracks-allowed way sh (flags-code sh f) f) image r after
+    MendValues way n flags image r after
 values way n flags image before r after c =
     mending-values way (base n) refl (word-flags (base n) flags) (early-checks (base n) n flags image (length before)) image before r after
     (mends way n flags image before r after c) (omega arith)

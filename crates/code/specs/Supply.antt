@@ -9,8 +9,8 @@ use lib.ListN.{getD}
 use Rattle.code.specs.Record.{TrackSet, A, B, Shape, base, tracks, track-length, Cells, Good, Same}
 use Rattle.code.specs.Image.{track-number, all-tracks, image-size, cells}
 use Rattle.code.specs.Payload.{payload-size, Carries}
-use Rattle.code.specs.Flags.{TrackFlags, whole, word-flags, flag-count}
-use Rattle.code.specs.Reach.{most, Extra, none, extra, AtMostOne}
+use Rattle.code.specs.Flags.{TrackFlags, whole, word-flags, flag-count, Within}
+use Rattle.code.specs.Reach.{flags-code, most, Extra, none, extra, AtMostOne, Ambiguous}
 use Rattle.code.specs.Calls.{Result, plain, Stays, changed-in, changed-cells, RepairNear, TraceNear}
 use Rattle.code.specs.Contracts.{Encoded, WasRead, Repaired, Traced}
 
@@ -128,6 +128,13 @@ pub record Point3 (sh : Shape) (near : Cells → Type 0) (limit long doubt : Typ
   -- agree on all unflagged tracks."
   pub said-6 : long → (r .answer ≡ 6) ↔ doubt
 
+-- Of document 01's repair and tracing: n blocks, the tracks that the flag word flags, the extras of the table's code.
+abbrev pub MendPoint3 : Mending → ℕ → ℕ → List ℕ → Result → List ℕ → Type 0
+MendPoint3 way n flags image =
+    let sh = base n in
+    let f = word-flags sh flags in
+    Point3 sh (near-by way sh (flags-code sh f) f image) (Within sh f) (4 ≤ n) (Ambiguous sh f) image
+
 -- ## Document 01, of the values that repair and tracing return
 
 abbrev pub extra-in : Result → TrackSet → Extra
@@ -159,3 +166,10 @@ pub record Values (sh : Shape) (f : TrackFlags) (allowed : ℕ) (image : List �
       (t : ℕ) → t < tracks sh s → f s t ≡ false → changed-in sh (cells sh image) (cells sh after) s t ≡ 0
   -- The mask has no bit from 18 up.
   pub mask-small : r .mask < 2 ^ all-tracks sh
+
+-- Of document 01's repair and tracing.
+abbrev pub MendValues : Mending → ℕ → ℕ → List ℕ → Result → List ℕ → Type 0
+MendValues way n flags image =
+    let sh = base n in
+    let f = word-flags sh flags in
+    Values sh f (tracks-allowed way sh (flags-code sh f) f) image

@@ -37,7 +37,7 @@ use Rattle.solver.specs.Solver.{marked}
 use Rattle.checks.specs.First.{FirstAnswer}
 use Rattle.checks.proofs.Refusing.{refuses-call, passes, ImageRight, image-right}
 use Rattle.repair.specs.Steps.{Marks, Given}
-use Rattle.repair.proofs.Flagging.{SameFlags, marks-same, code-same, agree-same, reach-same, named-same}
+use Rattle.repair.proofs.Flagging.{SameFlags, marks-same, code-same, agree-same, reach-same}
 
 -- ## Checks
 
@@ -61,7 +61,7 @@ module _ (sh : Shape) (n word : ℕ) (f : TrackFlags) (image out : List ℕ) (do
 -- With 0 none of the first five applies.
 pub passed : (sh : Shape) (n word : ℕ) (image : List ℕ) (room : ℕ) (r : Result) → FirstAnswer (early-checks sh n word image room) r → r .answer ≡ 0 →
     Passed (early-checks sh n word image room)
-passed sh n word image room r = passes (early-checks sh n word image room) r (λ e. omega arith, (λ e. omega arith, (λ e. omega arith, (λ e. omega arith, (λ e. omega arith, tt)))))
+passed sh n word image room r = passes (early-checks sh n word image room) r (omega arith)
 
 pub right : (sh : Shape) (n word : ℕ) (image : List ℕ) (room : ℕ) → Passed (early-checks sh n word image room) → ImageRight n (image-size sh) image (image-size sh) room
 right sh n word image room p = image-right n (image-size sh) image (image-size sh) room
@@ -73,16 +73,16 @@ sizes n = record { t1 = 7; t2 = 7; positions = 8 * n }
 
 -- ## The output
 
+-- A record is the same as itself.
+own-cells : (sh : Shape) (image : List ℕ) → Same sh (cells sh image) (cells sh image)
+own-cells sh image = record { cell = λ s t m l b. refl }
+
 module _ (sh : Shape) (image out part : List ℕ) (room : image-size sh ≤ length out) (size : length part ≡ image-size sh) where
   abbrev all : List ℕ
   all = part ++ drop (image-size sh) out
 
   part-cells : Same sh (cells sh part) (cells sh all)
   part-cells = front-same sh out part size room
-
-  -- A record is the same as itself.
-  image-cells : Same sh (cells sh image) (cells sh image)
-  image-cells = record { cell = λ s t m l b. refl }
 
   -- What is right of the part is right of the whole output.
   mended-all : (near : Cells → Type 0) (named : List ℕ → TrackSet → Extra) → (near (cells sh part) → near (cells sh all)) → ((s : TrackSet) → named part s ≡ named all s) →
@@ -91,7 +91,7 @@ module _ (sh : Shape) (image out part : List ℕ) (room : image-size sh ≤ leng
     good = good-same sh _ _ part-cells (f .good);
     reached = h (f .reached);
     stays = front-stays (image-size sh) out part size room;
-    result = f .result ∙ mended-same sh _ _ _ _ image-cells part-cells (named part) (named all) e;
+    result = f .result ∙ mended-same sh _ _ _ _ (own-cells sh image) part-cells (named part) (named all) e;
   })
   mended-all near named h e r (inr f) = inr (record {
     no-record = f .no-record;
@@ -110,7 +110,7 @@ module _ (sh : Shape) (image out part : List ℕ) (room : image-size sh ≤ leng
   pub trace-all : (code : ℕ) (f : TrackFlags) (r : Result) → Traces sh code f image (take (image-size sh) out) r part → Traces sh code f image out r all
   trace-all code f = mended-all (TraceNear sh code f image) (trace-named sh f image)
       (λ i. record { choice = i .choice; allowed = i .allowed; agree = agree-all _ _ (i .agree) })
-      (λ s. changed-extra-same sh _ _ _ _ image-cells part-cells f s (tracks sh s) (omega arith))
+      (λ s. changed-extra-same sh _ _ _ _ (own-cells sh image) part-cells f f s (λ t l. refl) (tracks sh s) (omega arith))
 
 -- ## Flags that say the same
 
@@ -142,7 +142,7 @@ module _ (sh : Shape) (image before : List ℕ) (r : Result) (after : List ℕ) 
     pub traces-as : (code : ℕ) → Traces sh code f image before r after → Traces sh code g image before r after
     traces-as code = mended-as (TraceNear sh code f image) (TraceNear sh code g image) (trace-named sh f image) (trace-named sh g image)
         (reach-same sh f g same code (cells sh image)) (reach-same sh g f back code (cells sh image))
-        (λ s. named-same sh f g same (cells sh image) (cells sh after) s (tracks sh s) (omega arith))
+        (λ s. changed-extra-same sh _ _ _ _ (own-cells sh image) (own-cells sh after) f g s (same s) (tracks sh s) (omega arith))
 
 -- ## The calls of document 01, by the marks of a flag word
 

@@ -1,17 +1,15 @@
 -- Flags: those that say the same, and plans for flags within the limit.
-use mathlib.Core.Path.{_≡_, refl, sym, ap, ap₂, _∙_}
+use mathlib.Core.Path.{_≡_, sym, ap, ap₂, _∙_}
 use mathlib.Core.Logic.{_≢_, by-cases}
-use mathlib.Core.Bool.{Bool, _&&_, _||_, not, true≢false}
+use mathlib.Core.Bool.{Bool, _||_, true≢false}
 use mathlib.Core.List.{List}
-use Prim.Native.Nat.{ℕ, zero, suc, _<_, _≤_}
+use Prim.Native.Nat.{ℕ, _<_, _≤_}
 use native.Mathlib.Decide.{decLe}
 use native.Mathlib.Omega.{arith}
 use lib.Dec.{eqb}
 use Rattle.code.specs.Record.{TrackSet, A, B, closed-tail, Shape, tracks, Cells}
 use Rattle.code.specs.Flags.{TrackFlags, whole, bit, word-flags, flag-count, AgreeOff, Within}
-use Rattle.code.specs.Image.{track-number}
-use Rattle.code.specs.Reach.{pick, reach-code, flags-code, Extra, extra, is, Choice, Allowed, with-extras, InReach}
-use Rattle.code.specs.Calls.{changed-in, changed-extra}
+use Rattle.code.specs.Reach.{reach-code, flags-code, is, Choice, Allowed, with-extras, InReach}
 use Rattle.code.specs.Sizes.{shape, Small}
 use Rattle.code.specs.declared.Sizes.{Sizes}
 use Rattle.code.proofs.Codes.{flags-room, closed-within}
@@ -65,15 +63,6 @@ module _ (sh : Shape) (f g : TrackFlags) (same : SameFlags sh f g) where
     track = a .track;
     unflagged = λ s t h. sym (same s t (a .track s t h)) ∙ a .unflagged s t h;
   }
-
--- The same extras are named.
-pub named-same : (sh : Shape) (f g : TrackFlags) → SameFlags sh f g → (x y : Cells) (s : TrackSet) (k : ℕ) → k ≤ tracks sh s →
-    changed-extra sh f x y s k ≡ changed-extra sh g x y s k
-unfolding changed-extra
-named-same sh f g same x y s zero l = refl
-named-same sh f g same x y s (suc t) l = ap₂ (λ (b : Bool) (e : Extra). pick (not b && not (eqb (changed-in sh x y s t) 0)) (extra (track-number sh s t)) e)
-    (same s t l)
-    (named-same sh f g same x y s t (omega arith))
 
 -- The same records are in reach.
 pub reach-same : (sh : Shape) (f g : TrackFlags) → SameFlags sh f g → (code : ℕ) (x y : Cells) → InReach sh code f x y → InReach sh code g x y

@@ -6,7 +6,7 @@ use denote.Ref.{now}
 use lib.ListN.{length}
 use Rattle.code.specs.Numbers.{size-checks, cell-check, Passed}
 use Rattle.code.specs.Calls.{plain}
-use Rattle.checks.proofs.Refusing.{refuses, next-refuses, next-passes, passes, sizes-right}
+use Rattle.checks.proofs.Refusing.{refuses, next-refuses, next-passes, size-passes, sizes-right}
 use borrow.Author.Needs.{needs}
 use Rattle.checks.proofs.check_image.Statement.{statement}
 use Rattle.checks.proofs.check_image.Tie as tie
@@ -14,7 +14,7 @@ use Rattle.checks.proofs.check_image.Tie as tie
 -- None of 1 to 3 applies.
 passed : (c : tie.Else1) → let a = c .before .before .before .before .args in
     Passed (size-checks (a .blocks) (a .wanted) (length (now (a .image))) (a .size) (a .room))
-passed c = passes (size-checks _ _ _ _ _) _ (λ e. omega arith, (λ e. omega arith, (λ e. omega arith, tt))) (c .before .before .check-sizes .ensures) (c .if1 .left)
+passed c = size-passes _ _ _ _ _ _ (c .before .before .check-sizes .ensures) (c .if1 .left)
 
 check-sizes-requires : tie.Need-check-sizes-requires
 check-sizes-requires c κs = search needs

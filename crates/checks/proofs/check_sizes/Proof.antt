@@ -2,14 +2,14 @@
 use mathlib.Core.List.{[], _∷_}
 use native.Mathlib.Omega.{arith}
 use Rattle.code.specs.Numbers.{input-checks, room-check, Passed}
-use Rattle.checks.proofs.Refusing.{refuses, next-refuses, next-passes, passes}
+use Rattle.checks.proofs.Refusing.{refuses, next-refuses, next-passes, input-passes}
 use borrow.Author.Needs.{needs}
 use Rattle.checks.proofs.check_sizes.Statement.{statement}
 use Rattle.checks.proofs.check_sizes.Tie as tie
 
 -- Neither applies.
 passed : (c : tie.Else1) → let a = c .before .before .before .args in Passed (input-checks (a .blocks) (a .wanted) (a .input))
-passed c = passes (input-checks _ _ _) _ (λ e. omega arith, (λ e. omega arith, tt)) (c .before .before .check-input .ensures) (c .if1 .left)
+passed c = input-passes _ _ _ _ (c .before .before .check-input .ensures) (c .if1 .left)
 
 check-input-requires : tie.Need-check-input-requires
 check-input-requires c κs = search needs

@@ -1,14 +1,13 @@
 -- `encode` meets its contract: a number of the first checks, or the record.
 use mathlib.Core.Path.{refl, sym, _∙_}
 use Prim.Native.Nat.{_+_, _*_}
-use native.Mathlib.Omega.{arith}
 use denote.Ref.{now}
 use lib.ListN.{length}
 use lib.Seq.{length-take-le}
 use Rattle.code.specs.Record.{base}
-use Rattle.code.specs.Numbers.{size-checks, Passed}
+use Rattle.code.specs.Numbers.{Passed}
 use Rattle.code.specs.Calls.{encode-checks}
-use Rattle.checks.proofs.Refusing.{passes, SizesRight, sizes-right}
+use Rattle.checks.proofs.Refusing.{size-passes, SizesRight, sizes-right}
 use Rattle.codec.proofs.Answering.{not-encoded, encoded}
 use borrow.Author.Needs.{needs}
 use Rattle.codec.proofs.encode.Statement.{statement}
@@ -17,7 +16,7 @@ use Rattle.codec.proofs.encode.Tie as tie
 -- No check applies.
 passed : (c : tie.Else1) → let a = c .before .before .before .before .before .args in
     Passed (encode-checks (base (a .blocks)) (a .blocks) (now (a .payload)) (now (a .out)))
-passed c = passes (size-checks _ _ _ _ _) _ (λ e. omega arith, (λ e. omega arith, (λ e. omega arith, tt))) (c .before .before .check-sizes .ensures) (c .if1 .left)
+passed c = size-passes _ _ _ _ _ _ (c .before .before .check-sizes .ensures) (c .if1 .left)
 
 right : (c : tie.Else1) → let a = c .before .before .before .before .before .args in
     SizesRight (a .blocks) (a .blocks * 14) (length (now (a .payload))) (18 * (8 * a .blocks + 15)) (length (now (a .out)))

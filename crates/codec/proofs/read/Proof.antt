@@ -1,14 +1,13 @@
 -- `read` meets its contract: a number of the first checks, or whether the image is good.
 use mathlib.Core.Path.{refl}
 use Prim.Native.Nat.{_+_, _*_}
-use native.Mathlib.Omega.{arith}
 use borrow.Author.Tests.{not-true, not-false}
 use denote.Ref.{now}
 use lib.ListN.{length}
 use Rattle.code.specs.Record.{base}
-use Rattle.code.specs.Numbers.{image-checks, Passed}
+use Rattle.code.specs.Numbers.{Passed}
 use Rattle.code.specs.Calls.{read-checks}
-use Rattle.checks.proofs.Refusing.{passes, ImageRight, image-right}
+use Rattle.checks.proofs.Refusing.{image-passes, ImageRight, image-right}
 use Rattle.codec.proofs.Answering.{refused-read, was-read, was-not-read}
 use borrow.Author.Needs.{needs}
 use Rattle.codec.proofs.read.Statement.{statement}
@@ -17,7 +16,7 @@ use Rattle.codec.proofs.read.Tie as tie
 -- No check applies.
 passed : (c : tie.Else1) → let a = c .before .before .before .before .before .args in
     Passed (read-checks (base (a .blocks)) (a .blocks) (now (a .image)) (now (a .out)))
-passed c = passes (image-checks _ _ _ _ _) _ (λ e. omega arith, (λ e. omega arith, (λ e. omega arith, (λ e. omega arith, tt)))) (c .before .before .check-image .ensures) (c .if1 .left)
+passed c = image-passes _ _ _ _ _ _ (c .before .before .check-image .ensures) (c .if1 .left)
 
 right : (c : tie.Else1) → let a = c .before .before .before .before .before .args in
     ImageRight (a .blocks) (18 * (8 * a .blocks + 15)) (now (a .image)) (a .blocks * 14) (length (now (a .out)))

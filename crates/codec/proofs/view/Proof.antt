@@ -6,8 +6,9 @@ use denote.Ref.{now}
 use lib.ListN.{length}
 use Rattle.code.specs.Record.{base}
 use Rattle.code.specs.Numbers.{input-checks, Passed}
+use Rattle.code.proofs.Numbers.{passed-exact}
 use Rattle.syndrome.proofs.Table.{row-end}
-use Rattle.checks.proofs.Refusing.{passes, exact}
+use Rattle.checks.proofs.Refusing.{input-passes}
 use Rattle.codec.proofs.Answering.{not-viewed, no-track, viewed}
 use borrow.Author.Needs.{needs}
 use Rattle.codec.proofs.view.Statement.{statement}
@@ -16,7 +17,7 @@ use Rattle.codec.proofs.view.Tie as tie
 -- The count and the image's length are right.
 passed : (c : tie.Else1) → let a = c .before .before .before .before .args in
     Passed (input-checks (a .blocks) (18 * (8 * a .blocks + 15)) (length (now (a .image))))
-passed c = passes (input-checks _ _ _) _ (λ e. omega arith, (λ e. omega arith, tt)) (c .before .before .check-input .ensures) (c .if1 .left)
+passed c = input-passes _ _ _ _ (c .before .before .check-input .ensures) (c .if1 .left)
 
 -- The stretch is within the image.
 room : (c : tie.Else2) → let a = c .before .before .before .before .before .args in
@@ -24,7 +25,7 @@ room : (c : tie.Else2) → let a = c .before .before .before .before .before .ar
 room c =
     let a = c .before .before .before .before .before .args in
     let few : a .g < 18 = omega arith in
-    omega (arith, row-end (8 * a .blocks + 15) _ _ few, exact _ _ _ (passed (c .before)))
+    omega (arith, row-end (8 * a .blocks + 15) _ _ few, passed-exact _ _ _ (passed (c .before)))
 
 mul-l : tie.Need-mul-l
 mul-l c = search needs

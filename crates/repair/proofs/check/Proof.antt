@@ -5,7 +5,7 @@ use native.Mathlib.Omega.{arith}
 use denote.Ref.{now}
 use Rattle.code.specs.Record.{base}
 use Rattle.code.specs.Numbers.{image-checks, flag-check, Passed}
-use Rattle.checks.proofs.Refusing.{refuses, next-refuses, next-passes, passes}
+use Rattle.checks.proofs.Refusing.{refuses, next-refuses, next-passes, image-passes}
 use borrow.Author.Needs.{needs}
 use Rattle.repair.proofs.check.Statement.{statement}
 use Rattle.repair.proofs.check.Tie as tie
@@ -14,7 +14,7 @@ use Rattle.repair.proofs.check.Tie as tie
 passed : (c : tie.Else1) → let a = c .before .before .before .before .args in
     let size = 18 * (8 * a .blocks + 15) in
     Passed (image-checks (a .blocks) size (now (a .image)) size (a .room))
-passed c = passes (image-checks _ _ _ _ _) _ (λ e. omega arith, (λ e. omega arith, (λ e. omega arith, (λ e. omega arith, tt)))) (c .before .before .check-image .ensures) (c .if1 .left)
+passed c = image-passes _ _ _ _ _ _ (c .before .before .check-image .ensures) (c .if1 .left)
 
 mul-size : tie.Need-mul-size
 mul-size c = search needs
