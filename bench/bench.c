@@ -1,15 +1,19 @@
 /*
- * Side by side in one run on the same inputs: the library, plain C of the same scheme and, where it was built in,
- * ISA-L's Reed-Solomon decode (14 + 4) of the same payload. It prints a table, writes a plot, and asserts nothing but
- * that all answers agree.
+ * Side by side in one run on the same inputs: the library, plain C with the same loops and, where it was built in, ISA-L's
+ * Reed-Solomon decode (14 + 4) of the same payloads. Each case rotates over many inputs. Before any is timed, every answer and
+ * every byte of every output is compared: the library's with those of plain C, and both with what is known of the input. It
+ * prints a table, writes a plot, and asserts nothing about time.
  *
- *     bench [PLOT.svg]
+ *     bench [--short] [PLOT.svg]
+ *
+ * --short: all cases and all comparisons, but few inputs of each and one short run, for tests.
  */
 #define _POSIX_C_SOURCE 200809L
 
 #include "axp.h"
 #include "plain.h"
 
+#include <assert.h>
 #include <stdio.h>
 #include <stdlib.h>
 #include <string.h>
@@ -19,9 +23,55 @@
 #include <isa-l/erasure_code.h>
 #endif
 
-enum { LARGEST = AXP_MAX_IMAGE_SIZE, RUNS = 40, BARS = 64 };
+/*
+ * The inputs of a case, as many for each track: of long records few are enough that no branch predictor learns them, of short
+ * ones it takes more. An output has room past every result.
+ */
+enum { FEW_INPUTS = 3 * AXP_TRACKS, INPUTS = 24 * AXP_TRACKS };
+enum { SET = AXP_TRACKS / 2, ROOM = AXP_MAX_IMAGE_SIZE + 64, ROWS = 16 };
 
-static uint8_t payload[AXP_MAX_PAYLOAD_SIZE], good[LARGEST], image[LARGEST], out[LARGEST];
+/* The runs of each, spread over some passes over all cases, so that a slow spell of the machine falls on no case alone. */
+enum { PASSES = 20, RUNS = 160 };
+
+typedef axp_result (*call)(uint32_t blocks, uint32_t flags, const uint8_t *bytes, size_t len, uint8_t *out, size_t out_len);
+
+/* An input, memory of its own where it has any, and what is right: the bytes at the start of the output, and the answer. */
+struct input {
+    uint32_t flags;
+    const uint8_t *bytes;
+    uint8_t *memory;
+    const uint8_t *result;
+    axp_result answer;
+};
+
+/* Who runs: the name, the call, an output of its own, and nanoseconds a call. */
+struct runner {
+    const char *name;
+    call call;
+    uint8_t *out;
+    double best;
+};
+
+/* A case, which is a row of the table. The second runner is plain C, where there is one. */
+struct row {
+    const char *name;
+    struct input *inputs;
+    size_t input_len, result_len, rounds;
+    int runner_count;
+    struct runner runners[2];
+};
+
+static int is_short;
+static uint32_t blocks;
+static int input_count;
+static uint8_t *payloads[INPUTS], *records[INPUTS];
+static struct row rows[ROWS];
+static int row_count;
+static uint8_t pattern[ROOM], wanted[ROOM];
+/* Both outputs lie alike in their pages. */
+static _Alignas(4096) uint8_t library_out[ROOM];
+static _Alignas(4096) uint8_t plain_out[ROOM];
+static volatile uint32_t sink;
 
 static uint64_t state = 1;
 
@@ -31,6 +81,149 @@ static uint32_t next(void)
     return (uint32_t)(state >> 33);
 }
 
+static void *allocate(size_t size)
+{
+    void *p = malloc(size);
+    if (!p) {
+        perror("bench");
+        exit(1);
+    }
+    return p;
+}
+
+/* ---- calls of one type */
+
+static axp_result library_encode(uint32_t n, uint32_t flags, const uint8_t *payload, size_t len, uint8_t *out, size_t out_len)
+{
+    (void)flags;
+    return axp_encode(n, payload, len, out, out_len);
+}
+
+static axp_result library_read(uint32_t n, uint32_t flags, const uint8_t *image, size_t len, uint8_t *out, size_t out_len)
+{
+    (void)flags;
+    return axp_read(n, image, len, out, out_len);
+}
+
+static axp_result c_encode(uint32_t n, uint32_t flags, const uint8_t *payload, size_t len, uint8_t *out, size_t out_len)
+{
+    (void)flags;
+    return plain_encode(n, payload, len, out, out_len);
+}
+
+static axp_result c_read(uint32_t n, uint32_t flags, const uint8_t *image, size_t len, uint8_t *out, size_t out_len)
+{
+    (void)flags;
+    return plain_read(n, image, len, out, out_len);
+}
+
+/* The answer 0 with no changed cell. */
+static const axp_result unchanged = {AXP_OK, 0, 0, 0, AXP_NO_EXTRA, AXP_NO_EXTRA};
+
+static axp_result copy_image(uint32_t n, uint32_t flags, const uint8_t *image, size_t len, uint8_t *out, size_t out_len)
+{
+    (void)n, (void)flags, (void)out_len;
+    memcpy(out, image, len);
+    return unchanged;
+}
+
+#ifdef WITH_ISAL
+enum { K = 14, M = 18, LOST = 4 };
+
+static unsigned char generator[K * M];
+
+/* The parts follow one another. The flags name the lost ones, four data parts: the inverse of what is left, then the four. */
+static axp_result isal_decode(uint32_t n, uint32_t flags, const uint8_t *parts, size_t len, uint8_t *out, size_t out_len)
+{
+    unsigned char left[K * K], inverse[K * K], rows[K * LOST], tables[32 * K * LOST];
+    unsigned char *from[K], *to[LOST];
+    int kept = 0, lost = 0;
+    (void)len, (void)out_len;
+    for (int i = 0; i < M && kept < K; i++)
+        if (!(flags >> i & 1)) {
+            from[kept] = (unsigned char *)parts + (size_t)i * n;
+            memcpy(left + K * kept, generator + K * i, K);
+            kept++;
+        }
+    gf_invert_matrix(left, inverse, K);
+    for (int i = 0; i < K; i++)
+        if (flags >> i & 1) {
+            to[lost] = out + (size_t)lost * n;
+            memcpy(rows + K * lost, inverse + K * i, K);
+            lost++;
+        }
+    ec_init_tables(K, LOST, rows, tables);
+    ec_encode_data((int)n, K, LOST, tables, from, to);
+    return unchanged;
+}
+#endif
+
+/* ---- comparison */
+
+static void fail(const char *name, int i, const char *what)
+{
+    fprintf(stderr, "bench: n = %u: %s: input %d: %s\n", blocks, name, i, what);
+    exit(1);
+}
+
+static int same(axp_result a, axp_result b)
+{
+    return a.answer == b.answer && a.detail == b.detail && a.mask == b.mask && a.cells == b.cells && a.extra_a == b.extra_a &&
+           a.extra_b == b.extra_b;
+}
+
+/* The first byte at which two outputs differ, and ROOM where there is none. */
+static size_t difference(const uint8_t *a, const uint8_t *b)
+{
+    size_t at = 0;
+    if (memcmp(a, b, ROOM) == 0)
+        return ROOM;
+    while (a[at] == b[at])
+        at++;
+    return at;
+}
+
+/* Every input, each runner into its own output: all must answer and leave what the first does, and what is right. */
+static void compare(const struct row *row)
+{
+    char what[200];
+    for (int i = 0; i < input_count; i++) {
+        const struct input *x = &row->inputs[i];
+        const char *first_name = row->runners[0].name;
+        axp_result first = unchanged;
+        memcpy(wanted, pattern, ROOM);
+        memcpy(wanted, x->result, row->result_len);
+        for (int k = 0; k < row->runner_count; k++) {
+            const struct runner *w = &row->runners[k];
+            memcpy(w->out, pattern, ROOM);
+            axp_result r = w->call(blocks, x->flags, x->bytes, row->input_len, w->out, ROOM);
+            if (k == 0)
+                first = r;
+            if (!same(r, first)) {
+                snprintf(what, sizeof what, "%s and %s answer differently", first_name, w->name);
+                fail(row->name, i, what);
+            }
+            if (!same(r, x->answer)) {
+                snprintf(what, sizeof what, "%s: answer %u, detail %u, mask %#x, cells %u, extras %u and %u are not right", w->name,
+                         r.answer, r.detail, r.mask, r.cells, r.extra_a, r.extra_b);
+                fail(row->name, i, what);
+            }
+            size_t at = difference(row->runners[0].out, w->out);
+            if (at < ROOM) {
+                snprintf(what, sizeof what, "%s and %s differ at byte %zu of the output", first_name, w->name, at);
+                fail(row->name, i, what);
+            }
+            at = difference(wanted, w->out);
+            if (at < ROOM) {
+                snprintf(what, sizeof what, "%s: byte %zu of the output is not right", w->name, at);
+                fail(row->name, i, what);
+            }
+        }
+    }
+}
+
+/* ---- time */
+
 static double now(void)
 {
     struct timespec t;
@@ -38,205 +231,349 @@ static double now(void)
     return (double)t.tv_sec * 1e9 + (double)t.tv_nsec;
 }
 
-typedef axp_result (*decode)(uint32_t, uint32_t, const uint8_t *, size_t, uint8_t *, size_t);
-typedef axp_result (*convert)(uint32_t, const uint8_t *, size_t, uint8_t *, size_t);
-
-static uint32_t blocks, flags;
-static decode the_decode;
-static convert the_convert;
-static const uint8_t *input;
-static size_t input_len;
-static uint32_t sink;
-
-static void run_copy(void)
+/* Nanoseconds of one run: the rounds of the case over all its inputs. */
+static double run(const struct row *row, const struct runner *w)
 {
-    memcpy(out, image, AXP_IMAGE_SIZE(blocks));
-    sink += out[next() % AXP_IMAGE_SIZE(blocks)];
+    double from = now();
+    for (size_t r = 0; r < row->rounds; r++)
+        for (const struct input *x = row->inputs; x < row->inputs + input_count; x++)
+            sink += w->call(blocks, x->flags, x->bytes, row->input_len, w->out, ROOM).answer;
+    return now() - from;
 }
 
-static void run_decode(void) { sink += the_decode(blocks, flags, input, input_len, out, sizeof out).answer; }
-
-static void run_convert(void) { sink += the_convert(blocks, input, input_len, out, sizeof out).answer; }
-
-/* Nanoseconds a call: the best of RUNS runs, each long enough to be timed, so that other work on the machine counts least. */
-static double measure(void (*call)(void))
+/* Is a run long enough to be timed? The shortest of three counts, so that it is not other work that makes it long. */
+static int is_long(const struct row *row, const struct runner *w)
 {
-    double best = 1e18;
-    size_t count = 1;
-    for (;;) {
-        double from = now();
-        for (size_t i = 0; i < count; i++)
-            call();
-        if (now() - from > 1e6)
-            break;
-        count *= 2;
+    for (int i = 0; i < 3; i++)
+        if (run(row, w) < 1e6)
+            return 0;
+    return 1;
+}
+
+static void set_rounds(struct row *row)
+{
+    row->rounds = 1;
+    for (int k = 0; k < row->runner_count && !is_short; k++)
+        while (!is_long(row, &row->runners[k]))
+            row->rounds *= 2;
+}
+
+/* Some runs of each runner, of which the best counts, so that other work on the machine counts least. They take turns. */
+static void measure(struct row *row, int runs)
+{
+    for (int r = 0; r < runs; r++)
+        for (int k = 0; k < row->runner_count; k++) {
+            double time = run(row, &row->runners[k]) / ((double)row->rounds * input_count);
+            if (time < row->runners[k].best)
+                row->runners[k].best = time;
+        }
+}
+
+/* ---- inputs */
+
+/* Some different tracks among `span` from track number `first` on, by chance. */
+static uint32_t pick(unsigned first, unsigned span, unsigned count)
+{
+    uint32_t tracks = 0;
+    while (count > 0) {
+        uint32_t bit = (uint32_t)1 << (first + next() % span);
+        if (!(tracks & bit)) {
+            tracks |= bit;
+            count--;
+        }
     }
-    for (int r = 0; r < RUNS; r++) {
-        double from = now();
-        for (size_t i = 0; i < count; i++)
-            call();
-        double time = (now() - from) / (double)count;
-        if (time < best)
-            best = time;
+    return tracks;
+}
+
+/* The damaged tracks of a case's inputs, for each number k of an input. */
+
+static uint32_t no_track(unsigned k)
+{
+    (void)k;
+    return 0;
+}
+
+static uint32_t one_track(unsigned k) { return (uint32_t)1 << k % AXP_TRACKS; }
+
+static uint32_t two_and_two(unsigned k)
+{
+    (void)k;
+    return pick(0, SET, 2) | pick(SET, SET, 2);
+}
+
+/* Three tracks of one set, and one of the other. */
+static uint32_t three_and_one(unsigned k)
+{
+    return k % 2 ? pick(0, SET, 3) | pick(SET, SET, 1) : pick(SET, SET, 3) | pick(0, SET, 1);
+}
+
+/* A track of each set, each of A and each of B as often. */
+static uint32_t one_and_one(unsigned k) { return axp_flag_a(k % SET) | axp_flag_b((k + k / SET) % SET); }
+
+/* Those of the choice that is tried last. */
+static uint32_t last_choice(unsigned k)
+{
+    (void)k;
+    return axp_flag_a(SET - 1) | axp_flag_b(SET - 1);
+}
+
+static uint32_t two_of_a_set(unsigned k) { return k % 2 ? pick(0, SET, 2) : pick(SET, SET, 2); }
+
+/* The numbers of the inputs, in an order by chance. */
+static void shuffle(unsigned *order)
+{
+    unsigned count = (unsigned)input_count;
+    for (unsigned i = 0; i < count; i++)
+        order[i] = i;
+    for (unsigned i = count - 1; i > 0; i--) {
+        unsigned j = next() % (i + 1), k = order[i];
+        order[i] = order[j];
+        order[j] = k;
     }
-    return best;
+}
+
+/* Noise on a track, of which the first cell is wrong for certain. */
+static void noise(uint8_t *track, size_t l)
+{
+    track[0] ^= 1;
+    for (size_t m = 1; m < l; m++)
+        track[m] ^= next() & 1;
+}
+
+/* What repair and tracing answer where an image is to become a record: which tracks differ, flagged or not, and the cells. */
+static axp_result changes(const uint8_t *image, const uint8_t *record, uint32_t flags)
+{
+    size_t l = AXP_TRACK_LENGTH(blocks);
+    axp_result r = unchanged;
+    for (uint32_t g = 0; g < AXP_TRACKS; g++) {
+        uint32_t cells = 0;
+        for (size_t m = 0; m < l; m++)
+            cells += image[g * l + m] != record[g * l + m];
+        if (cells == 0)
+            continue;
+        r.cells += cells;
+        r.mask |= (uint32_t)1 << g;
+        if (flags >> g & 1)
+            continue;
+        if (g < SET)
+            r.extra_a = g;
+        else
+            r.extra_b = g;
+    }
+    return r;
+}
+
+/* ---- cases */
+
+static struct row *add_row(const char *name, size_t input_len, size_t result_len, call library, call plain)
+{
+    assert(row_count < ROWS);
+    struct row *row = &rows[row_count++];
+    row->name = name;
+    row->inputs = allocate((size_t)input_count * sizeof *row->inputs);
+    row->input_len = input_len;
+    row->result_len = result_len;
+    row->runner_count = plain ? 2 : 1;
+    row->runners[0] = (struct runner){"the library", library, library_out, 1e18};
+    row->runners[1] = (struct runner){"plain C", plain, plain_out, 1e18};
+    return row;
+}
+
+static void free_rows(void)
+{
+    while (row_count > 0) {
+        struct row *row = &rows[--row_count];
+        for (int i = 0; i < input_count; i++)
+            free(row->inputs[i].memory);
+        free(row->inputs);
+    }
+}
+
+static uint8_t *copy_of(const uint8_t *record)
+{
+    uint8_t *image = allocate(AXP_IMAGE_SIZE(blocks));
+    memcpy(image, record, AXP_IMAGE_SIZE(blocks));
+    return image;
+}
+
+/* Images that are to become the records again: noise on tracks, flagged or not. */
+static void add_noise(const char *name, call library, call plain, uint32_t (*tracks)(unsigned k), int flagged)
+{
+    size_t l = AXP_TRACK_LENGTH(blocks), size = AXP_IMAGE_SIZE(blocks);
+    struct row *row = add_row(name, size, size, library, plain);
+    unsigned order[INPUTS];
+    shuffle(order);
+    for (int i = 0; i < input_count; i++) {
+        uint32_t damaged = tracks(order[i]), flags = flagged ? damaged : 0;
+        uint8_t *image = copy_of(records[i]);
+        for (unsigned g = 0; g < AXP_TRACKS; g++)
+            if (damaged >> g & 1)
+                noise(image + g * l, l);
+        row->inputs[i] = (struct input){flags, image, image, records[i], changes(image, records[i], flags)};
+    }
+}
+
+/* Images that have no record in reach: a wrong cell at the last position of the data in two tracks of a set. */
+static void add_two_errors(const char *name, call library, call plain)
+{
+    size_t l = AXP_TRACK_LENGTH(blocks), size = AXP_IMAGE_SIZE(blocks);
+    struct row *row = add_row(name, size, size, library, plain);
+    unsigned order[INPUTS];
+    shuffle(order);
+    for (int i = 0; i < input_count; i++) {
+        uint32_t damaged = two_of_a_set(order[i]);
+        uint8_t *image = copy_of(records[i]);
+        for (unsigned g = 0; g < AXP_TRACKS; g++)
+            if (damaged >> g & 1)
+                image[g * l + 8 * blocks - 1] ^= 1;
+        row->inputs[i] = (struct input){0, image, image, image, {AXP_NO_RECORD, 0, 0, 0, AXP_NO_EXTRA, AXP_NO_EXTRA}};
+    }
+}
+
+/* Payloads and records, from the ones to the others. */
+static void add_encode(const char *name)
+{
+    struct row *row = add_row(name, AXP_PAYLOAD_SIZE(blocks), AXP_IMAGE_SIZE(blocks), library_encode, c_encode);
+    for (int i = 0; i < input_count; i++)
+        row->inputs[i] = (struct input){0, payloads[i], NULL, records[i], unchanged};
+}
+
+static void add_read(const char *name)
+{
+    struct row *row = add_row(name, AXP_IMAGE_SIZE(blocks), AXP_PAYLOAD_SIZE(blocks), library_read, c_read);
+    for (int i = 0; i < input_count; i++)
+        row->inputs[i] = (struct input){0, records[i], NULL, payloads[i], unchanged};
 }
 
 #ifdef WITH_ISAL
-/* Four of eighteen tracks are lost: the inverse of what is left, then the four. Matrix inversion is part of a decode. */
-static unsigned char *parts[18];
-
-static void run_isal(void)
+/* Each payload in fourteen parts, and four parts made of them. Behind them are the parts that are lost. */
+static void add_isal(const char *name)
 {
-    enum { K = 14, M = 18, LOST = 4 };
-    unsigned char encode[K * M], left[K * K], inverse[K * K], rows[K * LOST], tables[32 * K * LOST];
-    unsigned char *from[K], *to[LOST];
-    int length = (int)blocks * 8;
-    gf_gen_cauchy1_matrix(encode, M, K);
-    for (int i = 0; i < K; i++) {
-        from[i] = parts[LOST + i];
-        memcpy(left + K * i, encode + K * (LOST + i), K);
+    struct row *row = add_row(name, M * (size_t)blocks, LOST * (size_t)blocks, isal_decode, NULL);
+    unsigned char tables[32 * K * (M - K)], *from[K], *to[M - K];
+    row->runners[0].name = "ISA-L";
+    gf_gen_cauchy1_matrix(generator, M, K);
+    ec_init_tables(K, M - K, generator + K * K, tables);
+    for (int i = 0; i < input_count; i++) {
+        uint8_t *parts = allocate(row->input_len + row->result_len), *lost = parts + row->input_len;
+        uint32_t flags = pick(0, K, LOST);
+        memcpy(parts, payloads[i], AXP_PAYLOAD_SIZE(blocks));
+        for (int k = 0; k < K; k++)
+            from[k] = parts + (size_t)k * blocks;
+        for (int k = K; k < M; k++)
+            to[k - K] = parts + (size_t)k * blocks;
+        ec_encode_data((int)blocks, K, M - K, tables, from, to);
+        row->inputs[i] = (struct input){flags, parts, parts, lost, unchanged};
+        for (int k = 0; k < K; k++)
+            if (flags >> k & 1) {
+                memcpy(lost, from[k], blocks);
+                lost += blocks;
+            }
     }
-    for (int i = 0; i < LOST; i++)
-        to[i] = out + i * length;
-    gf_invert_matrix(left, inverse, K);
-    memcpy(rows, inverse, K * LOST);
-    ec_init_tables(K, LOST, rows, tables);
-    ec_encode_data((int)AXP_PAYLOAD_SIZE(blocks) / K, K, LOST, tables, from, to);
-    sink += out[0];
 }
 #endif
 
-static void noise(unsigned g)
+static void make_records(void)
 {
-    size_t l = AXP_TRACK_LENGTH(blocks);
-    for (size_t m = 0; m < l; m++)
-        image[g * l + m] ^= next() & 1;
-    image[g * l] ^= 1;
+    for (int i = 0; i < input_count; i++) {
+        payloads[i] = allocate(AXP_PAYLOAD_SIZE(blocks));
+        records[i] = allocate(AXP_IMAGE_SIZE(blocks));
+        for (size_t k = 0; k < AXP_PAYLOAD_SIZE(blocks); k++)
+            payloads[i][k] = (uint8_t)next();
+        if (axp_encode(blocks, payloads[i], AXP_PAYLOAD_SIZE(blocks), records[i], AXP_IMAGE_SIZE(blocks)).answer != AXP_OK)
+            fail("encode", i, "the library makes no record");
+    }
 }
 
+static void free_records(void)
+{
+    for (int i = 0; i < input_count; i++) {
+        free(payloads[i]);
+        free(records[i]);
+    }
+}
+
+/* The cases of 256 blocks, as multiples of a copy. */
 struct bar {
-    char name[48];
-    uint32_t blocks;
+    const char *name;
     double library, plain;
 };
 
-static struct bar bars[BARS];
+static struct bar bars[ROWS];
 static int bar_count;
 
-static void row(const char *name, double copy, double library, double plain)
+static void print_row(const struct row *row, double copy)
 {
-    double size = (double)AXP_PAYLOAD_SIZE(blocks);
-    printf("%5u  %-36s %10.0f %8.1f %10.0f %8.1f %9.0f\n", blocks, name, library, library / copy, plain, plain / copy,
-           size / library * 1e3);
-    if (bar_count < BARS) {
-        snprintf(bars[bar_count].name, sizeof bars[bar_count].name, "%s", name);
-        bars[bar_count].blocks = blocks;
-        bars[bar_count].library = library / copy;
-        bars[bar_count].plain = plain / copy;
-        bar_count++;
-    }
-}
-
-static void same(const char *name, axp_result a, axp_result b)
-{
-    if (memcmp(&a, &b, sizeof a) != 0) {
-        fprintf(stderr, "bench: %s: the library and plain C disagree\n", name);
-        exit(1);
-    }
-}
-
-static void compare_decode(const char *name, double copy, decode library, decode plain, uint32_t answer)
-{
-    input = image;
-    input_len = AXP_IMAGE_SIZE(blocks);
-    axp_result r = library(blocks, flags, image, input_len, out, sizeof out);
-    same(name, r, plain(blocks, flags, image, input_len, out, sizeof out));
-    if (r.answer != answer) {
-        fprintf(stderr, "bench: %s: answer %u\n", name, r.answer);
-        exit(1);
-    }
-    the_decode = library;
-    double a = measure(run_decode);
-    the_decode = plain;
-    row(name, copy, a, measure(run_decode));
-}
-
-static void compare_convert(const char *name, double copy, convert library, convert plain, const uint8_t *from, size_t len)
-{
-    input = from;
-    input_len = len;
-    same(name, library(blocks, from, len, out, sizeof out), plain(blocks, from, len, out, sizeof out));
-    the_convert = library;
-    double a = measure(run_convert);
-    the_convert = plain;
-    row(name, copy, a, measure(run_convert));
-}
-
-static void fresh(uint32_t word)
-{
-    memcpy(image, good, AXP_IMAGE_SIZE(blocks));
-    flags = word;
+    double a = row->runners[0].best, b = row->runners[1].best, speed = (double)AXP_PAYLOAD_SIZE(blocks) / a * 1e3;
+    printf("%5u  %-36s %10.0f %8.1f", blocks, row->name, a, a / copy);
+    if (row->runner_count == 2)
+        printf(" %10.0f %8.1f %9.2f %9.0f\n", b, b / copy, a / b, speed);
+    else if (row->runners[0].call != copy_image)
+        printf(" %10s %8s %9s %9.0f\n", "", "", "", speed);
+    else
+        printf("\n");
+    if (blocks == 256 && row->runner_count == 2)
+        bars[bar_count++] = (struct bar){row->name, a / copy, b / copy};
 }
 
 static void all(uint32_t n)
 {
     blocks = n;
-    size_t l = AXP_TRACK_LENGTH(n);
-    for (size_t i = 0; i < AXP_PAYLOAD_SIZE(n); i++)
-        payload[i] = (uint8_t)next();
-    axp_encode(n, payload, AXP_PAYLOAD_SIZE(n), good, sizeof good);
-    fresh(0);
-    double copy = measure(run_copy);
-    printf("%5u  %-36s %10.0f %8.1f\n", n, "copy of the image", copy, 1.0);
-
-    compare_convert("encode", copy, axp_encode, plain_encode, payload, AXP_PAYLOAD_SIZE(n));
-    compare_convert("read a clean record", copy, axp_read, plain_read, good, AXP_IMAGE_SIZE(n));
-    compare_decode("repair a clean record", copy, axp_repair, plain_repair, AXP_OK);
-    fresh(axp_flag_a(3));
-    noise(3);
-    compare_decode("repair one flagged track", copy, axp_repair, plain_repair, AXP_OK);
-    fresh(axp_flag_a(2) | axp_flag_a(5) | axp_flag_b(1) | axp_flag_b(6));
-    noise(2), noise(5), noise(10), noise(15);
-    compare_decode("repair 2 + 2 tracks of noise", copy, axp_repair, plain_repair, AXP_OK);
-    fresh(axp_flag_a(1) | axp_flag_a(4) | axp_flag_a(7) | axp_flag_b(0));
-    noise(1), noise(4), noise(7), noise(9);
-    compare_decode("repair 3 + 1 tracks of noise", copy, axp_repair, plain_repair, AXP_OK);
-    fresh(0);
-    compare_decode("trace a clean record", copy, axp_trace, plain_trace, AXP_OK);
-    noise(4);
-    compare_decode("trace one unknown track", copy, axp_trace, plain_trace, AXP_OK);
-    fresh(0);
-    noise(4), noise(13);
-    compare_decode("trace two unknown tracks", copy, axp_trace, plain_trace, AXP_OK);
-    fresh(0);
-    noise(8), noise(17);
-    compare_decode("trace two unknown tracks, the last", copy, axp_trace, plain_trace, AXP_OK);
-    fresh(0);
-    image[2 * l + 8 * n - 1] ^= 1;
-    image[6 * l + 8 * n - 1] ^= 1;
-    compare_decode("trace to 7, errors at the very end", copy, axp_trace, plain_trace, AXP_NO_RECORD);
+    input_count = n == 256 || is_short ? FEW_INPUTS : INPUTS;
+    make_records();
+    add_noise("copy of the image", copy_image, NULL, no_track, 0);
+    add_encode("encode");
+    add_read("read a clean record");
+    add_noise("repair a clean record", axp_repair, plain_repair, no_track, 1);
+    add_noise("repair one flagged track", axp_repair, plain_repair, one_track, 1);
+    add_noise("repair 2 + 2 tracks of noise", axp_repair, plain_repair, two_and_two, 1);
+    add_noise("repair 3 + 1 tracks of noise", axp_repair, plain_repair, three_and_one, 1);
+    add_noise("trace a clean record", axp_trace, plain_trace, no_track, 0);
+    add_noise("trace one unknown track", axp_trace, plain_trace, one_track, 0);
+    add_noise("trace two unknown tracks", axp_trace, plain_trace, one_and_one, 0);
+    add_noise("trace two unknown tracks, the last", axp_trace, plain_trace, last_choice, 0);
+    add_two_errors("trace to 7, errors at the very end", axp_trace, plain_trace);
 #ifdef WITH_ISAL
-    {
-        static unsigned char room[18 * 2048];
-        for (int i = 0; i < 18; i++)
-            parts[i] = room + i * 2048;
-        double isal = measure(run_isal);
-        printf("%5u  %-36s %10.0f %8.1f %10s %8s %9.0f\n", n, "(ISA-L, 14 + 4, four lost)", isal, isal / copy, "", "",
-               (double)AXP_PAYLOAD_SIZE(n) / isal * 1e3);
-    }
+    add_isal("(ISA-L, 14 + 4, four lost)");
 #endif
+    for (int i = 0; i < row_count; i++)
+        compare(&rows[i]);
+    for (int i = 0; i < row_count; i++)
+        set_rounds(&rows[i]);
+    for (int p = 0; p < (is_short ? 1 : PASSES); p++)
+        for (int i = 0; i < row_count; i++)
+            measure(&rows[i], is_short ? 1 : RUNS / PASSES);
+    for (int i = 0; i < row_count; i++)
+        print_row(&rows[i], rows[0].runners[0].best);
+    free_rows();
+    free_records();
 }
 
-/* Bars for 256 blocks, as multiples of a copy, on a scale of logarithms. */
-static double place(double v)
+/* ---- plot: bars for 256 blocks, as multiples of a copy, on a scale of logarithms */
+
+/* The binary logarithm of a number, 0 where it is below 1: whole halvings, then a digit for each squaring. */
+static double logarithm(double v)
 {
-    double x = 0;
-    while (v >= 2) {
-        v /= 2;
+    double x = 0, digit = 1;
+    if (v < 1)
+        return 0;
+    for (; v >= 2; v /= 2)
         x += 1;
+    for (int i = 0; i < 20; i++) {
+        digit /= 2;
+        v *= v;
+        if (v >= 2) {
+            v /= 2;
+            x += digit;
+        }
     }
-    return (x + (v > 1 ? v - 1 : 0)) * 48;
+    return x;
+}
+
+static void bar(FILE *f, int y, double width, double value, const char *name, const char *color)
+{
+    fprintf(f, "<rect x=\"250\" y=\"%d\" width=\"%.1f\" height=\"12\" fill=\"%s\"/>", y, width, color);
+    fprintf(f, "<text x=\"%.1f\" y=\"%d\">%.1f %s</text>\n", 254 + width, y + 10, value, name);
 }
 
 static void plot(const char *path)
@@ -246,39 +583,55 @@ static void plot(const char *path)
         perror(path);
         exit(1);
     }
-    int count = 0;
+    int top = 1, bottom = 38 + 34 * bar_count;
     for (int i = 0; i < bar_count; i++)
-        count += bars[i].blocks == 256;
-    fprintf(f, "<svg xmlns=\"http://www.w3.org/2000/svg\" width=\"840\" height=\"%d\" font-family=\"sans-serif\" font-size=\"12\">\n", 60 + 34 * count);
+        while (logarithm(bars[i].library) > top || logarithm(bars[i].plain) > top)
+            top++;
+    double unit = 480.0 / top;
+    fprintf(f, "<svg xmlns=\"http://www.w3.org/2000/svg\" width=\"840\" height=\"%d\" ", bottom + 22);
+    fprintf(f, "font-family=\"sans-serif\" font-size=\"12\">\n");
     fprintf(f, "<rect width=\"100%%\" height=\"100%%\" fill=\"#ffffff\"/>\n");
     fprintf(f, "<text x=\"10\" y=\"20\">256 blocks: time as a multiple of a copy of the image (logarithmic)</text>\n");
-    for (int k = 0; k <= 9; k++)
-        fprintf(f, "<line x1=\"%d\" y1=\"34\" x2=\"%d\" y2=\"%d\" stroke=\"#dddddd\"/><text x=\"%d\" y=\"%d\" fill=\"#666666\" text-anchor=\"middle\">%d</text>\n",
-                250 + 48 * k, 250 + 48 * k, 38 + 34 * count, 250 + 48 * k, 54 + 34 * count, 1 << k);
-    int y = 40;
-    for (int i = 0; i < bar_count; i++) {
-        if (bars[i].blocks != 256)
-            continue;
+    for (int k = 0; k <= top; k++) {
+        double x = 250 + unit * k;
+        fprintf(f, "<line x1=\"%.1f\" y1=\"34\" x2=\"%.1f\" y2=\"%d\" stroke=\"#dddddd\"/>", x, x, bottom);
+        fprintf(f, "<text x=\"%.1f\" y=\"%d\" fill=\"#666666\" text-anchor=\"middle\">%.0f</text>\n", x, bottom + 16,
+                (double)((uint64_t)1 << k));
+    }
+    for (int i = 0, y = 40; i < bar_count; i++, y += 34) {
         fprintf(f, "<text x=\"244\" y=\"%d\" text-anchor=\"end\">%s</text>\n", y + 17, bars[i].name);
-        fprintf(f, "<rect x=\"250\" y=\"%d\" width=\"%.1f\" height=\"12\" fill=\"#1f6f8b\"/><text x=\"%.1f\" y=\"%d\">%.1f library</text>\n", y,
-                place(bars[i].library), 254 + place(bars[i].library), y + 10, bars[i].library);
-        fprintf(f, "<rect x=\"250\" y=\"%d\" width=\"%.1f\" height=\"12\" fill=\"#c9a227\"/><text x=\"%.1f\" y=\"%d\">%.1f plain C</text>\n", y + 14,
-                place(bars[i].plain), 254 + place(bars[i].plain), y + 24, bars[i].plain);
-        y += 34;
+        bar(f, y, unit * logarithm(bars[i].library), bars[i].library, "library", "#1f6f8b");
+        bar(f, y + 14, unit * logarithm(bars[i].plain), bars[i].plain, "plain C", "#c9a227");
     }
     fprintf(f, "</svg>\n");
-    fclose(f);
+    if (fclose(f) != 0) {
+        perror(path);
+        exit(1);
+    }
     printf("plot: %s\n", path);
 }
 
 int main(int argc, char **argv)
 {
-    printf("%5s  %-36s %10s %8s %10s %8s %9s\n", "n", "", "library ns", "copies", "plain C ns", "copies", "MB/s");
+    const char *path = NULL;
+    for (int i = 1; i < argc; i++) {
+        if (strcmp(argv[i], "--short") == 0) {
+            is_short = 1;
+        } else if (argv[i][0] == '-' || path) {
+            fprintf(stderr, "usage: bench [--short] [PLOT.svg]\n");
+            return 2;
+        } else {
+            path = argv[i];
+        }
+    }
+    for (size_t i = 0; i < ROOM; i++)
+        pattern[i] = (uint8_t)(2 + next() % 254);
+    printf("%5s  %-36s %10s %8s %10s %8s %9s %9s\n", "n", "", "library ns", "copies", "plain C ns", "copies", "lib/plain", "MB/s");
     all(1);
     all(16);
     all(256);
     printf("MB/s: payload bytes by the library; the drive of the source reads 3 MB/s.\n");
-    if (argc > 1)
-        plot(argv[1]);
-    return sink == 12345;
+    if (path)
+        plot(path);
+    return 0;
 }

@@ -1,41 +1,48 @@
 #include "plain.h"
 
+#include <stdbool.h>
 #include <string.h>
 
-enum { LAG = 15, NONE = 16, MOST = 8 * 256 + LAG };
+/* Of a set: its data tracks, and all its tracks. Then the lag, all tracks of a record, and the syndromes of the longest. */
+enum { DATA = 7, TRACKS = DATA + 2, LAG = 2 * DATA + 1, ALL = 2 * TRACKS, ROOM = 4 * (8 * 256 + LAG) };
 
-static const uint8_t reach[10][10] = {
-    {5, 4, 2, 1}, {4, 4, 1, 1}, {3, 1, 1}, {1, 1},
-};
+/* Past every track. */
+enum { NONE = 16 };
 
 static axp_result answer(uint32_t number, uint32_t detail)
 {
-    axp_result r = {number, detail, 0, 0, AXP_NO_EXTRA, AXP_NO_EXTRA};
-    return r;
+    return (axp_result){number, detail, 0, 0, AXP_NO_EXTRA, AXP_NO_EXTRA};
 }
 
-/* ---- tracks and syndromes */
+/* ---- tracks */
 
-static void add_track(uint8_t *restrict acc, const uint8_t *restrict track, size_t l, size_t off)
+/* Adds a track, modulo 2, to an accumulator, its first cell at `off`. */
+static inline void add_track(uint8_t *restrict acc, const uint8_t *restrict track, size_t l, size_t off)
 {
-    for (size_t k = 0; k + off < l; k++)
-        acc[k + off] ^= track[k];
+    size_t n = l - off;
+    acc += off;
+    for (size_t k = 0; k < n; k++)
+        acc[k] ^= track[k];
 }
 
-static int all_zero(const uint8_t *s, size_t n)
-{
-    uint8_t most = 0;
-    for (size_t i = 0; i < n; i++)
-        most = s[i] > most ? s[i] : most;
-    return most == 0;
-}
-
-static size_t first_bad(const uint8_t *s, size_t n)
+static inline uint8_t highest(const uint8_t *s, size_t n)
 {
     uint8_t most = 0;
     for (size_t i = 0; i < n; i++)
-        most = s[i] > most ? s[i] : most;
-    if (most < 2)
+        if (most < s[i])
+            most = s[i];
+    return most;
+}
+
+static inline bool all_zero(const uint8_t *s, size_t n)
+{
+    return highest(s, n) == 0;
+}
+
+/* The index of the first cell that is neither 0 nor 1, and the length where there is none. */
+static size_t first_bad_cell(const uint8_t *s, size_t n)
+{
+    if (highest(s, n) < 2)
         return n;
     size_t i = 0;
     while (s[i] < 2)
@@ -43,291 +50,605 @@ static size_t first_bad(const uint8_t *s, size_t n)
     return i;
 }
 
-/* Rows of syn: the diagonals of A and B, then their verticals. */
-static void syndromes(const uint8_t *image, size_t l, uint8_t *syn)
+/* The number of places at which two stretches differ: few enough that a byte holds it. */
+static inline uint8_t count_few(const uint8_t *a, const uint8_t *b, size_t n)
+{
+    uint8_t count = 0;
+    for (size_t i = 0; i < n; i++)
+        if (a[i] != b[i])
+            count++;
+    return count;
+}
+
+static size_t count_differing(const uint8_t *a, const uint8_t *b, size_t n)
+{
+    size_t count = 0, i = 0;
+    for (; 224 <= n - i; i += 224)
+        count += count_few(a + i, b + i, 224);
+    return count + count_few(a + i, b + i, n - i);
+}
+
+/* The number whose bits are four cells, the most significant first. One product gathers them. */
+static inline uint8_t nibble(const uint8_t *p)
+{
+    uint64_t x = p[0] | (uint64_t)p[1] << 8 | (uint64_t)p[2] << 16 | (uint64_t)p[3] << 24;
+    return (uint8_t)(x * 0x8040201 >> 24 & 15);
+}
+
+static inline uint8_t pack(const uint8_t *p)
+{
+    return (uint8_t)(nibble(p) << 4 | nibble(p + 4));
+}
+
+/* The number whose eight bytes are a byte's bits, the most significant first. One product spreads all bits but the last. */
+static inline uint64_t spread(uint8_t byte)
+{
+    uint64_t b = byte;
+    return (b * 0x40201008040201 >> 7 & 0x1010101010101) + (b & 1) * 0x100000000000000;
+}
+
+/* Writes the bytes of `x`, the least significant first: one store where that is the order of bytes in memory. */
+static inline void put(uint8_t *p, uint64_t x)
+{
+#if defined(__BYTE_ORDER__) && __BYTE_ORDER__ == __ORDER_LITTLE_ENDIAN__
+    memcpy(p, &x, 8);
+#else
+    for (int k = 0; k < 8; k++)
+        p[k] = (uint8_t)(x >> 8 * k);
+#endif
+}
+
+/* ---- syndromes: the rows are the diagonals of A and B, then their verticals */
+
+static inline size_t track_number(size_t s, size_t t)
+{
+    return TRACKS * s + t;
+}
+
+/* Adds track t of a set to the sums that it stands in. */
+static void add_stretch(uint8_t *restrict syn, const uint8_t *restrict track, size_t l, size_t s, size_t t)
+{
+    add_track(syn + (2 + s) * l, track, l, 0);
+    if (t <= DATA) {
+        add_track(syn + s * l, track, l, t);
+        add_track(syn + (1 - s) * l, track, l, LAG - t);
+    }
+}
+
+static void syndromes(const uint8_t *restrict image, size_t l, uint8_t *restrict syn)
 {
     memset(syn, 0, 4 * l);
-    for (size_t t = 0; t < 9; t++)
-        for (size_t s = 0; s < 2; s++) {
-            const uint8_t *track = image + (9 * s + t) * l;
-            add_track(syn + (2 + s) * l, track, l, 0);
-            if (t < 8) {
-                add_track(syn + s * l, track, l, t);
-                add_track(syn + (1 - s) * l, track, l, LAG - t);
-            }
-        }
+    for (size_t t = 0; t < TRACKS; t++) {
+        add_stretch(syn, image + track_number(0, t) * l, l, 0, t);
+        add_stretch(syn, image + track_number(1, t) * l, l, 1, t);
+    }
 }
 
-static int is_good(const uint8_t *image, const uint8_t *syn, size_t l)
-{
-    if (!all_zero(syn, 4 * l))
-        return 0;
-    for (size_t s = 0; s < 2; s++)
-        for (size_t t = 1; t < 8; t++)
-            if (!all_zero(image + (9 * s + t) * l + l - LAG, LAG))
-                return 0;
-    return 1;
-}
-
-static inline void turn(uint8_t *syn, size_t l, size_t row, size_t m)
+/* Turns a syndrome over, where the row has it. */
+static inline void turn(uint8_t *row, size_t l, size_t m)
 {
     if (m < l)
-        syn[row * l + m] ^= 1;
+        row[m] ^= 1;
 }
 
-static inline __attribute__((always_inline)) void flip(uint8_t *out, uint8_t *syn, size_t l, size_t s, size_t t, size_t p)
+/* Turns one cell over, and the syndromes that it stands in. */
+static void flip(uint8_t *restrict out, uint8_t *restrict syn, size_t l, size_t s, size_t t, size_t p)
 {
-    out[(9 * s + t) * l + p] ^= 1;
-    if (t < 8) {
-        turn(syn, l, s, p + t);
-        turn(syn, l, 1 - s, p + (LAG - t));
+    out[track_number(s, t) * l + p] ^= 1;
+    turn(syn + (2 + s) * l, l, p);
+    if (t <= DATA) {
+        turn(syn + s * l, l, p + t);
+        turn(syn + (1 - s) * l, l, p + LAG - t);
     }
-    turn(syn, l, 2 + s, p);
+}
+
+/* A track's cells in the image, and its cells' sums on its set's diagonal, on the other set's and on its vertical. */
+typedef struct {
+    uint8_t *cell, *own, *other, *vertical;
+} line;
+
+/* The line of track t of a set. A number past the set's tracks has none. */
+static line find_line(uint8_t *out, uint8_t *syn, size_t l, size_t s, size_t t)
+{
+    if (t >= TRACKS)
+        return (line){0};
+    return (line){out + track_number(s, t) * l, syn + s * l + t, syn + (1 - s) * l + LAG - t, syn + (2 + s) * l};
+}
+
+/* Adds a bit to a cell at a position of the data, and to the sums that it stands in. The same is done for 0 and for 1. */
+static inline void add_cell(line x, size_t t, size_t p, uint8_t w)
+{
+    x.cell[p] ^= w;
+    x.vertical[p] ^= w;
+    if (t <= DATA) {
+        x.own[p] ^= w;
+        x.other[p] ^= w;
+    }
+}
+
+static bool tail_zero(const uint8_t *out, size_t l, size_t s)
+{
+    for (size_t t = 1; t <= DATA; t++)
+        if (!all_zero(out + track_number(s, t) * l + l - LAG, LAG))
+            return false;
+    return true;
+}
+
+static bool is_good(const uint8_t *out, const uint8_t *syn, size_t l)
+{
+    return all_zero(syn, 4 * l) && tail_zero(out, l, 0) && tail_zero(out, l, 1);
 }
 
 /* ---- the solver */
 
+/* The flagged tracks of a set: the lowest, the highest data track, and the one that is left. */
 typedef struct {
     size_t low, high, last;
 } plan;
 
-static plan make_plan(uint32_t marks)
+static plan make_plan(const uint8_t *marks, size_t s)
 {
     size_t i = NONE, j = NONE, k = NONE;
-    for (size_t t = 0; t < 9; t++)
-        if (marks >> t & 1) {
+    marks += track_number(s, 0);
+    for (size_t t = 0; t < TRACKS; t++)
+        if (marks[t] == 1) {
             i = j;
             j = k;
             k = t;
         }
-    plan p = {i, k, j};
-    if (i == NONE) {
-        p.low = j;
-        p.high = NONE;
-        p.last = k;
-    } else if (k == 8) {
-        p.high = j;
-        p.last = k;
+    if (i == NONE)
+        return (plan){j, NONE, k};
+    if (k == TRACKS - 1)
+        return (plan){i, j, k};
+    return (plan){i, k, j};
+}
+
+/* Makes a cell right by the vertical. */
+static void by_vertical(uint8_t *restrict out, uint8_t *restrict syn, size_t l, size_t s, size_t t, size_t p)
+{
+    if (t < TRACKS && syn[(2 + s) * l + p])
+        flip(out, syn, l, s, t, p);
+}
+
+/* Makes a cell right in the tail: of track 0 by the diagonal of its set, 0 in a data track, else by the vertical. */
+static void by_tail(uint8_t *restrict out, uint8_t *restrict syn, size_t l, size_t s, size_t t, size_t p)
+{
+    if (t == 0) {
+        if (syn[s * l + p])
+            flip(out, syn, l, s, t, p);
+    } else if (t <= DATA) {
+        if (out[track_number(s, t) * l + p])
+            flip(out, syn, l, s, t, p);
+    } else {
+        by_vertical(out, syn, l, s, t, p);
     }
-    return p;
 }
 
-static inline __attribute__((always_inline)) void step(uint8_t *out, uint8_t *syn, size_t l, size_t s, plan p, size_t m)
+/* Makes a cell at a position of the data right by the diagonal of its own set. */
+static inline void low_at(line x, size_t t, size_t p)
 {
-    if (p.low < 8 && syn[s * l + m + p.low])
-        flip(out, syn, l, s, p.low, m);
-    if (p.high < 8 && syn[(1 - s) * l + m + LAG - p.high])
-        flip(out, syn, l, s, p.high, m);
-    if (p.last < 9 && syn[(2 + s) * l + m])
-        flip(out, syn, l, s, p.last, m);
+    if (t <= DATA)
+        add_cell(x, t, p, x.own[p]);
 }
 
-static inline void clear_cell(uint8_t *out, uint8_t *syn, size_t l, size_t s, size_t t, size_t m)
+/* The same by the diagonal of the other set. */
+static inline void high_at(line x, size_t t, size_t p)
 {
-    if (t >= 1 && t < 8 && out[(9 * s + t) * l + m])
-        flip(out, syn, l, s, t, m);
+    if (t <= DATA)
+        add_cell(x, t, p, x.other[p]);
 }
 
-static void tail_step(uint8_t *out, uint8_t *syn, size_t l, size_t s, plan p, size_t m)
+/* The same by the vertical. */
+static inline void last_at(line x, size_t t, size_t p)
 {
-    clear_cell(out, syn, l, s, p.low, m);
-    clear_cell(out, syn, l, s, p.high, m);
-    clear_cell(out, syn, l, s, p.last, m);
-    if ((p.low == 0 || p.last == 0) && syn[s * l + m])
-        flip(out, syn, l, s, 0, m);
-    if (p.last == 8 && syn[(2 + s) * l + m])
-        flip(out, syn, l, s, 8, m);
+    if (t < TRACKS)
+        add_cell(x, t, p, x.vertical[p]);
 }
 
-static void ahead(uint8_t *out, uint8_t *syn, size_t l, size_t s, size_t t)
+static void tail_step(uint8_t *restrict out, uint8_t *restrict syn, size_t l, size_t s, plan q, size_t m)
 {
-    if (t < 9)
-        for (size_t p = 0; p < l; p++)
-            if (syn[(2 + s) * l + p])
-                flip(out, syn, l, s, t, p);
+    by_tail(out, syn, l, s, q.low, m);
+    by_tail(out, syn, l, s, q.high, m);
+    by_tail(out, syn, l, s, q.last, m);
+}
+
+/* Are the four sums at m 0? */
+static inline bool sums_zero(const uint8_t *syn, size_t l, size_t m)
+{
+    return (syn[m] | syn[l + m] | syn[2 * l + m] | syn[3 * l + m]) == 0;
+}
+
+/* Makes one track of a set right by the verticals, at the positions of the data from `from` up to `to`. */
+static void verticals(uint8_t *restrict out, uint8_t *restrict syn, size_t l, size_t s, size_t t, size_t from, size_t to)
+{
+    line x = find_line(out, syn, l, s, t);
+    for (size_t p = from; p < to; p++)
+        last_at(x, t, p);
+}
+
+/* The same at every position. */
+static void ahead(uint8_t *restrict out, uint8_t *restrict syn, size_t l, size_t s, size_t t)
+{
+    verticals(out, syn, l, s, t, 0, l - LAG);
+    for (size_t p = l - LAG; p < l; p++)
+        by_vertical(out, syn, l, s, t, p);
+}
+
+/* Are all syndromes of the columns from `from` up to `to` 0? */
+static bool columns_zero(const uint8_t *syn, size_t l, size_t from, size_t to)
+{
+    size_t n = to - from;
+    return all_zero(syn + from, n) && all_zero(syn + l + from, n) && all_zero(syn + 2 * l + from, n) &&
+           all_zero(syn + 3 * l + from, n);
 }
 
 /* A position before which nothing is to be done: all syndromes are 0, up to a lag past each position. */
 static size_t quiet(const uint8_t *syn, size_t l)
 {
     size_t m = 0;
-    for (; m + 64 <= l - LAG; m += 64)
-        for (size_t row = 0; row < 4; row++)
-            if (!all_zero(syn + row * l + m, 64 + LAG))
-                return m;
+    while (m + 64 <= l - LAG && columns_zero(syn, l, m, m + 64 + LAG))
+        m += 64;
     return m;
 }
 
-static int solve_from(uint8_t *out, uint8_t *syn, size_t l, plan a, plan b, size_t m)
+/* Does a plan name one track at the most? */
+static bool is_single(plan q)
 {
-    for (; m < l - LAG; m++) {
-        step(out, syn, l, 0, a, m);
-        step(out, syn, l, 1, b, m);
-        if (syn[m] | syn[l + m] | syn[2 * l + m] | syn[3 * l + m])
-            return 0;
+    return q.low >= TRACKS && q.high >= TRACKS;
+}
+
+/* The data where neither set has more than one track to be made right. False: no record fits. */
+static bool solve_singles(uint8_t *restrict out, uint8_t *restrict syn, size_t l, plan a, plan b)
+{
+    size_t positions = l - LAG, m = quiet(syn, l);
+    while (m < positions) {
+        size_t end = positions - m < 128 ? positions : m + 128;
+        verticals(out, syn, l, 0, a.last, m, end);
+        verticals(out, syn, l, 1, b.last, m, end);
+        if (!columns_zero(syn, l, m, end))
+            return false;
+        m = end;
     }
-    for (; m < l; m++) {
+    return true;
+}
+
+/* The data of one set, where the other set is right. */
+static bool solve_set(uint8_t *restrict out, uint8_t *restrict syn, size_t l, size_t s, plan q)
+{
+    line low = find_line(out, syn, l, s, q.low);
+    line high = find_line(out, syn, l, s, q.high);
+    line last = find_line(out, syn, l, s, q.last);
+    for (size_t m = quiet(syn, l); m < l - LAG; m++) {
+        low_at(low, q.low, m);
+        high_at(high, q.high, m);
+        last_at(last, q.last, m);
+        if (!sums_zero(syn, l, m))
+            return false;
+    }
+    return true;
+}
+
+/* The data of both sets, of which neither has three tracks to be made right. */
+static bool solve_pairs(uint8_t *restrict out, uint8_t *restrict syn, size_t l, plan a, plan b)
+{
+    line a_low = find_line(out, syn, l, 0, a.low);
+    line a_last = find_line(out, syn, l, 0, a.last);
+    line b_low = find_line(out, syn, l, 1, b.low);
+    line b_last = find_line(out, syn, l, 1, b.last);
+    for (size_t m = quiet(syn, l); m < l - LAG; m++) {
+        low_at(a_low, a.low, m);
+        last_at(a_last, a.last, m);
+        low_at(b_low, b.low, m);
+        last_at(b_last, b.last, m);
+        if (!sums_zero(syn, l, m))
+            return false;
+    }
+    return true;
+}
+
+/* The positions of the data. Beside more tracks of a set, the one of the other set is made right first. */
+static bool solve_data(uint8_t *restrict out, uint8_t *restrict syn, size_t l, plan a, plan b)
+{
+    if (is_single(a)) {
+        if (is_single(b))
+            return solve_singles(out, syn, l, a, b);
+        ahead(out, syn, l, 0, a.last);
+        return solve_set(out, syn, l, 1, b);
+    }
+    if (is_single(b)) {
+        ahead(out, syn, l, 1, b.last);
+        return solve_set(out, syn, l, 0, a);
+    }
+    if (a.high < TRACKS || b.high < TRACKS)
+        return false;
+    return solve_pairs(out, syn, l, a, b);
+}
+
+/* Makes the named tracks of a working copy right. True: the copy is now a good record. False: there is none. */
+static bool solve(uint8_t *restrict out, uint8_t *restrict syn, size_t l, plan a, plan b)
+{
+    if (!solve_data(out, syn, l, a, b))
+        return false;
+    for (size_t m = l - LAG; m < l; m++) {
         tail_step(out, syn, l, 0, a, m);
         tail_step(out, syn, l, 1, b, m);
     }
     return is_good(out, syn, l);
 }
 
-static int solve(uint8_t *out, uint8_t *syn, size_t l, uint32_t marks)
-{
-    plan a = make_plan(marks & 0x1ff), b = make_plan(marks >> 9 & 0x1ff);
-    if (a.high != NONE)
-        ahead(out, syn, l, 1, b.last);
-    if (b.high != NONE)
-        ahead(out, syn, l, 0, a.last);
-    return solve_from(out, syn, l, a, b, quiet(syn, l));
-}
+/* ---- checks */
 
-static uint32_t count_track(const uint8_t *a, const uint8_t *b, size_t l)
-{
-    uint32_t count = 0;
-    for (size_t i = 0; i < l; i++)
-        count += a[i] != b[i];
-    return count;
-}
-
-static axp_result changes(const uint8_t *image, const uint8_t *out, size_t l, uint32_t marks)
-{
-    axp_result r = answer(0, 0);
-    for (size_t g = 0; g < 18; g++)
-        if (marks >> g & 1) {
-            uint32_t count = count_track(image + g * l, out + g * l, l);
-            r.cells += count;
-            if (count)
-                r.mask |= (uint32_t)1 << g;
-        }
-    return r;
-}
-
-/* ---- the calls */
-
-static axp_result check(uint32_t blocks, uint32_t flags, const uint8_t *image, size_t image_len, size_t out_len)
+/* Numbers 1 to 3. */
+static axp_result check_sizes(uint32_t blocks, size_t input, size_t wanted, size_t room, size_t size)
 {
     if (blocks == 0 || blocks > 256)
         return answer(1, 0);
-    if (image_len != AXP_IMAGE_SIZE(blocks))
+    if (input != wanted)
         return answer(2, 0);
-    if (out_len < image_len)
+    if (room < size)
         return answer(3, 0);
-    size_t bad = first_bad(image, image_len);
-    if (bad < image_len)
-        return answer(4, (uint32_t)bad);
-    if (flags >> 18)
-        return answer(5, 0);
-    if (reach[__builtin_popcount(flags & 0x1ff)][__builtin_popcount(flags >> 9)] == 0)
-        return answer(6, 0);
     return answer(0, 0);
 }
 
-axp_result plain_repair(uint32_t blocks, uint32_t flags, const uint8_t *image, size_t image_len, uint8_t *out, size_t out_len)
+/* Numbers 1 to 4. */
+static axp_result check_image(uint32_t blocks, const uint8_t *image, size_t len, size_t room, size_t size)
 {
-    uint8_t syn[4 * MOST];
-    axp_result r = check(blocks, flags, image, image_len, out_len);
+    axp_result r = check_sizes(blocks, len, AXP_IMAGE_SIZE(blocks), room, size);
     if (r.answer)
         return r;
-    size_t l = AXP_TRACK_LENGTH(blocks);
-    memcpy(out, image, image_len);
-    syndromes(image, l, syn);
-    if (solve(out, syn, l, flags))
-        return changes(image, out, l, flags);
-    memcpy(out, image, image_len);
-    return answer(7, 0);
-}
-
-axp_result plain_trace(uint32_t blocks, uint32_t flags, const uint8_t *image, size_t image_len, uint8_t *out, size_t out_len)
-{
-    uint8_t first[4 * MOST], syn[4 * MOST];
-    axp_result r = check(blocks, flags, image, image_len, out_len);
-    if (r.answer)
-        return r;
-    size_t l = AXP_TRACK_LENGTH(blocks);
-    unsigned code = reach[__builtin_popcount(flags & 0x1ff)][__builtin_popcount(flags >> 9)];
-    memcpy(out, image, image_len);
-    syndromes(image, l, first);
-    for (size_t ea = 0; ea <= 9; ea++) {
-        if (ea && (code == 1 || code == 3 || (flags >> (ea - 1) & 1)))
-            continue;
-        for (size_t eb = 0; eb <= 9; eb++) {
-            if (eb && (code == 1 || code == 2 || (flags >> (8 + eb) & 1)))
-                continue;
-            if (ea && eb && code != 5)
-                continue;
-            uint32_t marks = flags | (ea ? (uint32_t)1 << (ea - 1) : 0) | (eb ? (uint32_t)1 << (8 + eb) : 0);
-            memcpy(syn, first, 4 * l);
-            if (solve(out, syn, l, marks)) {
-                r = changes(image, out, l, marks);
-                if (ea && (r.mask >> (ea - 1) & 1))
-                    r.extra_a = (uint32_t)(ea - 1);
-                if (eb && (r.mask >> (8 + eb) & 1))
-                    r.extra_b = (uint32_t)(8 + eb);
-                return r;
-            }
-            for (size_t g = 0; g < 18; g++)
-                if (marks >> g & 1)
-                    memcpy(out + g * l, image + g * l, l);
-        }
-    }
-    return answer(7, 0);
-}
-
-axp_result plain_read(uint32_t blocks, const uint8_t *image, size_t image_len, uint8_t *out, size_t out_len)
-{
-    uint8_t syn[4 * MOST];
-    if (blocks == 0 || blocks > 256)
-        return answer(1, 0);
-    if (image_len != AXP_IMAGE_SIZE(blocks))
-        return answer(2, 0);
-    if (out_len < AXP_PAYLOAD_SIZE(blocks))
-        return answer(3, 0);
-    size_t bad = first_bad(image, image_len);
-    if (bad < image_len)
+    size_t bad = first_bad_cell(image, len);
+    if (bad < len)
         return answer(4, (uint32_t)bad);
+    return r;
+}
+
+/* Numbers 1 to 5. */
+static axp_result check(uint32_t blocks, uint32_t flags, const uint8_t *image, size_t len, size_t room)
+{
+    axp_result r = check_image(blocks, image, len, room, AXP_IMAGE_SIZE(blocks));
+    if (r.answer)
+        return r;
+    if (flags >> ALL)
+        return answer(5, 0);
+    return r;
+}
+
+/* ---- encoder and reader */
+
+/* The number of the track along which byte c of each block goes. */
+static inline size_t data_number(size_t c)
+{
+    return c < DATA ? c + 1 : c + 3;
+}
+
+/* Writes the data tracks, and 0 to all other tracks. */
+static void write_data(uint8_t *restrict out, size_t l, const uint8_t *restrict payload, size_t blocks)
+{
+    memset(out, 0, ALL * l);
+    for (size_t c = 0; c < 2 * DATA; c++) {
+        uint8_t *track = out + data_number(c) * l;
+        for (size_t b = 0; b < blocks; b++)
+            put(track + 8 * b, spread(payload[2 * DATA * b + c]));
+    }
+}
+
+/* Makes the diagonals of a record without check tracks those of its tracks 0: each adds the other's, a lag before. */
+static void close_diagonals(uint8_t *syn, size_t l)
+{
+    for (size_t m = LAG; m < l; m++) {
+        uint8_t a = syn[m] ^ syn[l + m - LAG];
+        uint8_t b = syn[l + m] ^ syn[m - LAG];
+        syn[m] = a;
+        syn[l + m] = b;
+    }
+}
+
+/* Adds the diagonals to the verticals of the same set. */
+static void close_verticals(uint8_t *syn, size_t l)
+{
+    size_t n = 2 * l;
+    for (size_t i = 0; i < n; i++)
+        syn[n + i] ^= syn[i];
+}
+
+static void write_checks(uint8_t *restrict out, const uint8_t *restrict syn, size_t l)
+{
+    memcpy(out + track_number(0, 0) * l, syn, l);
+    memcpy(out + track_number(0, DATA + 1) * l, syn + 2 * l, l);
+    memcpy(out + track_number(1, 0) * l, syn + l, l);
+    memcpy(out + track_number(1, DATA + 1) * l, syn + 3 * l, l);
+}
+
+axp_result plain_encode(uint32_t blocks, const uint8_t *restrict payload, size_t payload_len, uint8_t *restrict out, size_t out_len)
+{
+    uint8_t syn[ROOM];
+    axp_result r = check_sizes(blocks, payload_len, AXP_PAYLOAD_SIZE(blocks), out_len, AXP_IMAGE_SIZE(blocks));
+    if (r.answer)
+        return r;
+    size_t l = AXP_TRACK_LENGTH(blocks);
+    write_data(out, l, payload, blocks);
+    syndromes(out, l, syn);
+    close_diagonals(syn, l);
+    close_verticals(syn, l);
+    write_checks(out, syn, l);
+    return r;
+}
+
+static void read_data(uint8_t *restrict out, size_t l, const uint8_t *restrict image, size_t blocks)
+{
+    for (size_t c = 0; c < 2 * DATA; c++) {
+        const uint8_t *track = image + data_number(c) * l;
+        for (size_t b = 0; b < blocks; b++)
+            out[2 * DATA * b + c] = pack(track + 8 * b);
+    }
+}
+
+axp_result plain_read(uint32_t blocks, const uint8_t *restrict image, size_t image_len, uint8_t *restrict out, size_t out_len)
+{
+    uint8_t syn[ROOM];
+    axp_result r = check_image(blocks, image, image_len, out_len, AXP_PAYLOAD_SIZE(blocks));
+    if (r.answer)
+        return r;
     size_t l = AXP_TRACK_LENGTH(blocks);
     syndromes(image, l, syn);
     if (!is_good(image, syn, l))
         return answer(7, 0);
-    for (size_t c = 0; c < 14; c++) {
-        const uint8_t *track = image + (c < 7 ? c + 1 : c + 3) * l;
-        for (size_t b = 0; b < blocks; b++) {
-            const uint8_t *p = track + 8 * b;
-            out[14 * b + c] = (uint8_t)(128 * p[0] + 64 * p[1] + 32 * p[2] + 16 * p[3] + 8 * p[4] + 4 * p[5] + 2 * p[6] + p[7]);
-        }
-    }
-    return answer(0, 0);
+    read_data(out, l, image, blocks);
+    return r;
 }
 
-axp_result plain_encode(uint32_t blocks, const uint8_t *payload, size_t payload_len, uint8_t *out, size_t out_len)
+/* ---- flags */
+
+/* The code of a flagged tracks in set A and b in set B, a by row and b along it. */
+static const uint8_t reach[10][10] = {
+    {5, 4, 2, 1}, {4, 4, 1, 1}, {3, 1, 1}, {1, 1},
+};
+
+/* The marks of a flag word: one a track number. */
+static void marks_of(uint32_t flags, uint8_t marks[ALL])
 {
-    uint8_t syn[4 * MOST];
-    if (blocks == 0 || blocks > 256)
-        return answer(1, 0);
-    if (payload_len != AXP_PAYLOAD_SIZE(blocks))
-        return answer(2, 0);
-    if (out_len < AXP_IMAGE_SIZE(blocks))
-        return answer(3, 0);
+    for (size_t g = 0; g < ALL; g++) {
+        marks[g] = flags & 1;
+        flags >>= 1;
+    }
+}
+
+static size_t count_marks(const uint8_t *marks, size_t n)
+{
+    size_t count = 0;
+    for (size_t t = 0; t < n; t++)
+        count += marks[t] == 1;
+    return count;
+}
+
+static uint8_t code_of(const uint8_t marks[ALL])
+{
+    return reach[count_marks(marks, TRACKS)][count_marks(marks + TRACKS, TRACKS)];
+}
+
+/* ---- changed cells */
+
+static size_t count_track(const uint8_t *image, const uint8_t *out, size_t l, size_t g)
+{
+    return count_differing(image + g * l, out + g * l, l);
+}
+
+/* Copies the marked tracks of the image back, of which alone any are changed. */
+static void restore(const uint8_t marks[ALL], const uint8_t *restrict image, uint8_t *restrict out, size_t l)
+{
+    for (size_t g = 0; g < ALL; g++)
+        if (marks[g] == 1)
+            memcpy(out + g * l, image + g * l, l);
+}
+
+/* The extra that is named: a track that was changed. */
+static uint32_t named(const uint8_t *image, const uint8_t *out, size_t l, size_t first, size_t e)
+{
+    if (e == 0)
+        return AXP_NO_EXTRA;
+    size_t g = first + e - 1;
+    return count_track(image, out, l, g) == 0 ? AXP_NO_EXTRA : (uint32_t)g;
+}
+
+/* The answer 0 with what was changed, where marked tracks alone were. The extras of a choice are named. */
+static axp_result answer_of(const uint8_t marks[ALL], const uint8_t *image, const uint8_t *out, size_t l, size_t a, size_t b)
+{
+    axp_result r = answer(0, 0);
+    for (size_t g = 0; g < ALL; g++) {
+        size_t changed = marks[g] == 1 ? count_track(image, out, l, g) : 0;
+        r.cells += (uint32_t)changed;
+        if (changed)
+            r.mask |= (uint32_t)1 << g;
+    }
+    r.extra_a = named(image, out, l, 0, a);
+    r.extra_b = named(image, out, l, TRACKS, b);
+    return r;
+}
+
+/* ---- repairer */
+
+/* Solves a copy of the image by the marked tracks. Where there is no good record the output is the image again. */
+static bool work(const uint8_t marks[ALL], const uint8_t *restrict image, uint8_t *restrict out, uint8_t *restrict syn, size_t l)
+{
+    plan a = make_plan(marks, 0), b = make_plan(marks, 1);
+    if (solve(out, syn, l, a, b))
+        return true;
+    restore(marks, image, out, l);
+    return false;
+}
+
+axp_result plain_repair(uint32_t blocks, uint32_t flags, const uint8_t *restrict image, size_t image_len, uint8_t *restrict out,
+                        size_t out_len)
+{
+    uint8_t marks[ALL], syn[ROOM];
+    axp_result r = check(blocks, flags, image, image_len, out_len);
+    if (r.answer)
+        return r;
+    marks_of(flags, marks);
+    if (code_of(marks) == 0)
+        return answer(6, 0);
     size_t l = AXP_TRACK_LENGTH(blocks);
-    memset(out, 0, AXP_IMAGE_SIZE(blocks));
-    for (size_t c = 0; c < 14; c++) {
-        uint8_t *track = out + (c < 7 ? c + 1 : c + 3) * l;
-        for (size_t b = 0; b < blocks; b++)
-            for (int k = 0; k < 8; k++)
-                track[8 * b + k] = payload[14 * b + c] >> (7 - k) & 1;
-    }
-    syndromes(out, l, syn);
-    for (size_t m = LAG; m < l; m++) {
-        syn[m] ^= syn[l + m - LAG];
-        syn[l + m] ^= syn[m - LAG];
-    }
-    for (size_t i = 0; i < 2 * l; i++)
-        syn[2 * l + i] ^= syn[i];
-    memcpy(out, syn, l);
-    memcpy(out + 9 * l, syn + l, l);
-    memcpy(out + 8 * l, syn + 2 * l, l);
-    memcpy(out + 17 * l, syn + 3 * l, l);
-    return answer(0, 0);
+    memcpy(out, image, image_len);
+    syndromes(image, l, syn);
+    if (work(marks, image, out, syn, l))
+        return answer_of(marks, image, out, l, 0, 0);
+    return answer(7, 0);
+}
+
+/* ---- tracer */
+
+/* The extras that a code allows in A, in B and in all. */
+static const uint8_t most_a[6] = {0, 0, 1, 0, 1, 1};
+static const uint8_t most_b[6] = {0, 0, 0, 1, 1, 1};
+static const uint8_t most[6] = {0, 0, 1, 1, 1, 2};
+
+/* The marks with the extras of a choice: 0 for none, t + 1 for track t. */
+static void widen(const uint8_t marks[ALL], size_t a, size_t b, uint8_t wide[ALL])
+{
+    memcpy(wide, marks, ALL);
+    if (a)
+        wide[a - 1] = 1;
+    if (b)
+        wide[TRACKS + b - 1] = 1;
+}
+
+/* Is an extra none, or a track without a mark? */
+static inline bool is_free(const uint8_t *marks, size_t e)
+{
+    return e == 0 || marks[e - 1] != 1;
+}
+
+/* Does the code allow a choice, and are its extras unflagged tracks? */
+static bool allows(uint8_t code, const uint8_t marks[ALL], size_t a, size_t b)
+{
+    size_t in_a = a != 0, in_b = b != 0;
+    if (most_a[code] < in_a || most_b[code] < in_b || most[code] < in_a + in_b)
+        return false;
+    return is_free(marks, a) && is_free(marks + TRACKS, b);
+}
+
+axp_result plain_trace(uint32_t blocks, uint32_t flags, const uint8_t *restrict image, size_t image_len, uint8_t *restrict out,
+                       size_t out_len)
+{
+    uint8_t marks[ALL], wide[ALL], first[ROOM], syn[ROOM];
+    axp_result r = check(blocks, flags, image, image_len, out_len);
+    if (r.answer)
+        return r;
+    marks_of(flags, marks);
+    uint8_t code = code_of(marks);
+    if (code == 0)
+        return answer(6, 0);
+    size_t l = AXP_TRACK_LENGTH(blocks);
+    memcpy(out, image, image_len);
+    syndromes(image, l, first);
+    for (size_t a = 0; a <= TRACKS; a++)
+        for (size_t b = 0; b <= TRACKS; b++) {
+            if (!allows(code, marks, a, b))
+                continue;
+            widen(marks, a, b, wide);
+            memcpy(syn, first, 4 * l);
+            if (work(wide, image, out, syn, l))
+                return answer_of(wide, image, out, l, a, b);
+        }
+    return answer(7, 0);
 }

@@ -1,4 +1,7 @@
-/* The scheme in plain C, written by hand, position by position: what the benchmark measures the library against. */
+/*
+ * The scheme in plain C, written by hand with the functions, loops and order of the library: what the benchmark measures it
+ * against, so that a row compares two compilers.
+ */
 #ifndef PLAIN_H
 #define PLAIN_H
 

@@ -15,7 +15,9 @@
  * g (t for track t of A, 9 + t for track t of B) begins at byte g * L. Its payload is 14 bytes a
  * block.
  *
- * C89 to C23 and C++, with <stdint.h> and <stddef.h>.
+ * C89 to C23 and C++, with <stdint.h> and <stddef.h>. The inline helpers at the end of this header
+ * (axp_flag_a, axp_flag_b, axp_strerror) are there from C99 on and in C++; C89 has no inline functions,
+ * so a C89 program has the calls, the types and the constants alone.
  */
 #ifndef AXP_H
 #define AXP_H
@@ -26,6 +28,11 @@
 #ifdef __cplusplus
 extern "C" {
 #endif
+
+/* The version of this header and of the library that it was made for. */
+#define AXP_VERSION_MAJOR 0
+#define AXP_VERSION_MINOR 1
+#define AXP_VERSION_PATCH 0
 
 /* The most blocks of a record. */
 #define AXP_MAX_BLOCKS 256
@@ -148,9 +155,13 @@ axp_result axp_trace(uint32_t blocks, uint32_t flags, const uint8_t *image, size
 
 #if defined(__cplusplus) || (defined(__STDC_VERSION__) && __STDC_VERSION__ >= 199901L)
 
-/* The bit of track t of set A, or of set B, in a flag word or a mask. Not proved code. */
-static inline uint32_t axp_flag_a(unsigned t) { return (uint32_t)1 << t; }
-static inline uint32_t axp_flag_b(unsigned t) { return (uint32_t)1 << (9 + t); }
+/*
+ * The bit of track t of set A, or of set B, in a flag word or a mask: bit t, or bit 9 + t, for t from 0
+ * to 8. Any other t gives bit 31, which is no track's: repair and tracing refuse a flag word that has it
+ * with AXP_FLAG_BIT. Not proved code.
+ */
+static inline uint32_t axp_flag_a(unsigned t) { return (uint32_t)1 << (t < 9 ? t : 31); }
+static inline uint32_t axp_flag_b(unsigned t) { return (uint32_t)1 << (t < 9 ? 9 + t : 31); }
 
 /* A short text for an answer. Not proved code. */
 static inline const char *axp_strerror(uint32_t answer)

@@ -1,4 +1,4 @@
-/* A C program over the shipped archive: the README's calls in order, run under sanitizers and valgrind by the gate. */
+/* A C program over the shipped archive and the shared library: the README's calls in order, run under sanitizers and valgrind by the gate. */
 #include <axp.h>
 
 #include <stdio.h>
@@ -50,6 +50,18 @@ static void one(uint32_t n)
     expect(r.answer == AXP_CELL_VALUE && r.detail == 5, "cell value");
 }
 
+/* The bit of each track, and of what is no track. */
+static void flags(void)
+{
+    uint8_t image[AXP_IMAGE_SIZE(1)] = {0}, out[AXP_IMAGE_SIZE(1)];
+    unsigned t;
+    for (t = 0; t < 9; t++)
+        expect(axp_flag_a(t) == (uint32_t)1 << t && axp_flag_b(t) == (uint32_t)1 << (9 + t), "flag of a track");
+    for (t = 9; t < 70; t++)
+        expect(axp_repair(1, axp_flag_a(t), image, sizeof image, out, sizeof out).answer == AXP_FLAG_BIT &&
+               axp_trace(1, axp_flag_b(t), image, sizeof image, out, sizeof out).answer == AXP_FLAG_BIT, "flag of no track");
+}
+
 int main(void)
 {
     static const uint32_t counts[] = {1, 2, 7, 16, 100, 256};
@@ -57,6 +69,7 @@ int main(void)
     uint8_t byte = 0;
     for (i = 0; i < sizeof counts / sizeof *counts; i++)
         one(counts[i]);
+    flags();
     expect(axp_repair(1, 0, NULL, 0, NULL, 0).answer == AXP_INPUT_LENGTH, "no image");
     expect(axp_encode(0, NULL, 0, &byte, 1).answer == AXP_BLOCK_COUNT && byte == 0, "no blocks");
     expect(sizeof(axp_result) == 24, "size of axp_result");

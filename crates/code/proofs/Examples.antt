@@ -29,14 +29,14 @@ use Rattle.code.proofs.Spots.{spot, spots, length-ones, ones-bit, ones-
 use Rattle.code.proofs.Table.{and-left, and-right}
 use Rattle.code.proofs.Tests.{every, every-at, both-sets, both-at, tested-good}
 
-abbrev flags-of : ℕ → TrackFlags
+abbrev pub flags-of : ℕ → TrackFlags
 flags-of word = word-flags (base 1) word
 
 abbrev checks-of : ℕ → List ℕ → List ℕ → List {1} Check
 checks-of word image before = repair-checks (base 1) 1 word (flags-of word) image before
 
 -- The checks are passed.
-passed : (flags : ℕ) (ins before : List ℕ) → T (ltb flags (2 ^ 18)) → T (ltb 0 (flags-code (base 1) (flags-of flags))) → 414 ≤ length before →
+pub passed : (flags : ℕ) (ins before : List ℕ) → T (ltb flags (2 ^ 18)) → T (ltb 0 (flags-code (base 1) (flags-of flags))) → 414 ≤ length before →
     Passed (checks-of flags (ones ins) before)
 passed flags ins before few code h = (
   λ d. ⊎-elim (λ e. omega arith) (λ e. omega arith) d,
@@ -96,14 +96,14 @@ found near named named′ ins outs before r h g n i e = record {
       ∙ mended-same (base 1) (spots ins) _ (spots outs) _ (same-sym (image-cells ins)) (same-sym (ones-cells outs (drop 414 before))) named′ named i;
 }
 
-repair-found : (flags : ℕ) (ins outs : List ℕ) (r : Result) → T (ltb flags (2 ^ 18)) → T (ltb 0 (flags-code (base 1) (flags-of flags))) →
+pub repair-found : (flags : ℕ) (ins outs : List ℕ) (r : Result) → T (ltb flags (2 ^ 18)) → T (ltb 0 (flags-code (base 1) (flags-of flags))) →
     Good (base 1) (spots outs) → T (agree-test (flags-of flags) (spots ins) (spots outs)) →
     mended (base 1) (spots ins) (spots outs) (λ s. none) ≡ r → Holds (repair flags ins r outs)
 repair-found flags ins outs r few code g agree e before h = first-passed (checks-of flags (ones ins) before) (Refused r before (output outs before)) _ (passed flags ins before few code h)
     (inl (found (AgreeOff (base 1) (whole (flags-of flags)) (cells (base 1) (ones ins))) (λ s. none) (λ s. none) ins outs before r h g (tested-agree (flags-of flags) ins outs before agree) (λ s. refl) e))
 
 -- A choice of one extra track, in A.
-in-a : ℕ → Choice
+unfoldable pub in-a : ℕ → Choice
 in-a u A = extra u
 in-a u B = none
 
@@ -135,7 +135,7 @@ tested-allowed code u f t = record {
     free : T (ltb u 9 && not (f A u))
     free = and-right (ltb 0 (most-in code A) && ltb 0 (most code)) _ t
 
-trace-found : (flags u : ℕ) (ins outs : List ℕ) (r : Result) → T (ltb flags (2 ^ 18)) → T (ltb 0 (flags-code (base 1) (flags-of flags))) →
+pub trace-found : (flags u : ℕ) (ins outs : List ℕ) (r : Result) → T (ltb flags (2 ^ 18)) → T (ltb 0 (flags-code (base 1) (flags-of flags))) →
     T (allowed-test (flags-code (base 1) (flags-of flags)) u (flags-of flags)) → Good (base 1) (spots outs) →
     T (agree-test (with-extras (flags-of flags) (in-a u)) (spots ins) (spots outs)) →
     mended (base 1) (spots ins) (spots outs) (λ s. changed-extra (base 1) (flags-of flags) (spots ins) (spots outs) s (tracks (base 1) s)) ≡ r →
@@ -221,7 +221,7 @@ zero-good : Good (base 1) (spots [])
 unfolding spot
 zero-good = good-blank (base 1)
 
-good-128 : Good (base 1) (spots (a 0 1 ∷ rest-of-128))
+pub good-128 : Good (base 1) (spots (a 0 1 ∷ rest-of-128))
 unfolding every spot diagonal vertical back sum
 good-128 = tested-good (base 1) (spots (a 0 1 ∷ rest-of-128)) tt
 

@@ -34,3 +34,4 @@ pub mod Supply
 pub mod Tests
 pub mod Spots
 pub mod Examples
+pub mod Checklist

@@ -8,6 +8,7 @@ pub mod Numbers
 pub mod Calls
 pub mod Contracts
 pub mod Supply
+pub mod Checklist
 pub mod Examples
 pub mod Sizes
 pub mod Answers

@@ -1,13 +1,12 @@
--- What encoder, reader and track view return: a number of their checks, or what they are called for.
+-- What encoder and reader return: a number of their checks, or what they are called for.
 use mathlib.Core.Path.{_≡_, refl}
 use mathlib.Core.Logic.{_≢_, inl, inr}
-use mathlib.Core.List.{List, [], _∷_, _++_}
-use Prim.Native.Nat.{ℕ, _+_, _*_, _-_, _≤_}
-use native.Mathlib.Omega.{arith}
-use lib.ListN.{length, take, drop}
-use Rattle.code.specs.Record.{Shape, track-length, Good}
-use Rattle.code.specs.Image.{all-tracks, image-size, cells}
-use Rattle.code.specs.Numbers.{input-checks, Passed}
+use mathlib.Core.List.{List, [], _++_}
+use Prim.Native.Nat.{ℕ, _+_, _*_, _≤_}
+use lib.ListN.{length, drop}
+use Rattle.code.specs.Record.{Shape, Good}
+use Rattle.code.specs.Image.{image-size, cells}
+use Rattle.code.specs.Numbers.{Passed}
 use Rattle.code.specs.Calls.{
   Result,
   plain,
@@ -17,18 +16,14 @@ use Rattle.code.specs.Calls.{
   Encodes,
   read-checks,
   ReadOrNot,
-  track-check,
-  view-checks,
-  Shown,
 }
 use Rattle.code.proofs.Front.{front-same, front-stays}
 use Rattle.code.proofs.Linear.{good-same}
-use Rattle.code.proofs.Numbers.{first-passed, first-after}
+use Rattle.code.proofs.Numbers.{first-passed}
 use Rattle.code.proofs.Payloads.{carries-same}
 use Rattle.checks.specs.First.{FirstAnswer}
-use Rattle.checks.proofs.Refusing.{refuses, refuses-call}
+use Rattle.checks.proofs.Refusing.{refuses-call}
 use Rattle.codec.specs.Steps.{Reading, GoodRecord}
-use Rattle.codec.proofs.Rows.{part}
 use Rattle.codec.proofs.Columns.{column, column-lt, column-index, column-number}
 
 -- ## Encoder
@@ -83,24 +78,3 @@ module _ (sh : Shape) (n : ℕ) (image before : List ℕ) (r : Result) where
     -- An image that is not good.
     pub was-not-read : r ≡ plain 7 0 → (Good sh (cells sh image) → ⊥) → Read before
     was-not-read e bad = done before (inr (bad, record { result = e; output = refl }))
-
--- ## Track view
-
-module _ (sh : Shape) (n : ℕ) (image : List ℕ) (g : ℕ) where
-  abbrev View : List ℕ → Type 0
-  View shown = Shown (view-checks sh n image g) sh image g shown
-
-  -- An empty part, for the count or the length, and for the track number.
-  pub not-viewed : (r : Result) (shown : List ℕ) → FirstAnswer (input-checks n (image-size sh) (length image)) r → r .answer ≢ 0 → shown ≡ [] → View shown
-  not-viewed r shown f d e = refuses (input-checks n (image-size sh) (length image)) (track-check sh g ∷ []) r (λ c. shown ≡ []) _ (λ c a. e) f d
-
-  module _ (passed : Passed (input-checks n (image-size sh) (length image))) where
-    pub no-track : (shown : List ℕ) → all-tracks sh ≤ g → shown ≡ [] → View shown
-    no-track shown h e = first-after (input-checks n (image-size sh) (length image)) (track-check sh g ∷ []) (λ c. shown ≡ []) _ passed (inl (h, e))
-
-    -- The stretch.
-    pub viewed : (all-tracks sh ≤ g → ⊥) → View (part (track-length sh) image g)
-    viewed h =
-        let l = track-length sh in
-        let whole : g * l + l - g * l ≡ l = omega arith in
-        first-after (input-checks n (image-size sh) (length image)) (track-check sh g ∷ []) (λ c. part l image g ≡ []) (part l image g ≡ take l (drop (g * l) image)) passed (inr (h, rw whole))

@@ -1,4 +1,4 @@
-// Encoder, reader and track view.
+// Encoder and reader.
 use code::Answer;
 use code::Sizes;
 use code::plain_answer;
@@ -8,7 +8,7 @@ ghost use lib.ListN.{length, getD};
 ghost use Rattle.code.specs.Record.{track-length};
 ghost use Rattle.code.specs.Image.{image-size, cells};
 ghost use Rattle.code.specs.Sizes.{shape, Small};
-ghost use Rattle.code.specs.Contracts.{Encoded, WasRead, Viewed};
+ghost use Rattle.code.specs.Contracts.{Encoded, WasRead};
 ghost use Rattle.code.specs.Answers.{result-of};
 ghost use Rattle.track.specs.Track.{Bits};
 ghost use Rattle.syndrome.specs.Syndrome.{Image, Tested};
@@ -228,25 +228,4 @@ pub fn read(blocks: u32, image: &[u8], out: &mut [u8]) -> Answer
     }
     read_data(out, z, image, n);
     plain_answer(0, 0)
-}
-
-// ---- Track view
-
-// Track view: the stretch of track number g of the caller's own image, or an empty part.
-pub fn view(blocks: u32, image: &[u8], g: u32) -> &[u8]
-    ensures { λ r. ⌜ Viewed blocks (now (image .entry)) g (now r) ⌝ }
-{
-    let n = blocks as usize;
-    let l = 8 * n + 15;
-    let track = g as usize;
-    let first = checks::check_input(blocks, image.len(), 18 * l);
-    if first.number != 0 {
-        return &image[0..0];
-    }
-    if 18 <= track {
-        return &image[0..0];
-    }
-    let start = track * l;
-    let end = start + l;
-    &image[start..end]
 }

@@ -1,11 +1,13 @@
 -- What the tests for 0 say of a record.
 use mathlib.Core.Path.{_≡_, sym, ap, _∙_}
+use mathlib.Core.Logic.{by-cases}
 use mathlib.Core.Bool.{Bool, true, false, true≢false}
 use mathlib.Core.List.{List}
 use Prim.Native.Nat.{ℕ, zero, suc, _+_, _*_, _-_, _<_}
+use native.Mathlib.Decide.{decLt}
 use native.Mathlib.Omega.{arith}
 use borrow.Rule.Slice.PartMut.{mid-len}
-use lib.ListN.{length, getD, take, drop}
+use lib.ListN.{length, getD, take, drop, List·getD-eq-default}
 use Rattle.code.specs.Record.{TrackSet, A, B, Shape, track-length, Cells, Good}
 use Rattle.code.specs.Image.{image-size, cells}
 use Rattle.code.specs.Sizes.{shape}
@@ -52,7 +54,7 @@ not-good sh x h = record { yes-good = λ e. absurd (true≢false (sym e)); not-g
 
 module _ (z : Sizes) (out syn : List ℕ) (kept : Kept z out syn) where
   -- The syndromes of a good record are 0.
-  pub good-sums : Good (shape z) (cells (shape z) out) → (i : ℕ) → i < length syn → getD syn i 0 ≡ 0
+  good-sums : Good (shape z) (cells (shape z) out) → (i : ℕ) → i < length syn → getD syn i 0 ≡ 0
   good-sums g i h = by-rows (track-length (shape z)) (λ i. getD syn i 0 ≡ 0) at i (omega (arith, kept .holds .size))
     where
       at : (r m : ℕ) → r < 4 → m < track-length (shape z) → getD syn (r * track-length (shape z) + m) 0 ≡ 0
@@ -62,7 +64,25 @@ module _ (z : Sizes) (out syn : List ℕ) (kept : Kept z out syn) where
       at (suc (suc (suc zero))) m k b = kept .holds .verticals B m b ∙ g .verticals B m b
       at (suc (suc (suc (suc r)))) m k b = absurd (omega arith)
 
-  -- And its tail is.
+  -- The part that is tested: all four rows.
+  abbrev rows : List ℕ
+  rows = take (4 * track-length (shape z) - 0) (drop 0 syn)
+
+  rows-at : (i : ℕ) → i < 4 * track-length (shape z) → getD rows i 0 ≡ getD syn i 0
+  rows-at i h = part-at syn 0 (4 * track-length (shape z) - 0) i (omega arith) ∙ ap (λ j. getD syn j 0) (omega arith)
+
+  -- It passes the test, or no record is good.
+  pub sums-zero : {r : Bool} → Zeros rows r → r ≡ true → (i : ℕ) → getD syn i 0 ≡ 0
+  sums-zero zeros e i = by-cases (decLt i (4 * track-length (shape z)))
+      (λ h. sym (rows-at i h) ∙ zeros .all e i)
+      (λ n. List·getD-eq-default syn 0 {n = i} (omega (arith, kept .holds .size)))
+
+  pub sums-not : {r : Bool} → Zeros rows r → r ≡ false → Good (shape z) (cells (shape z) out) → ⊥
+  sums-not zeros e g = zeros .not-all e (λ i h.
+      let k : i < 4 * track-length (shape z) = omega (arith, mid-len 0 (4 * track-length (shape z)) syn (omega (arith, kept .holds .size))) in
+      rows-at i k ∙ good-sums g i (omega (arith, kept .holds .size)))
+
+  -- The tail of a good record is 0.
   pub good-tail : Good (shape z) (cells (shape z) out) → (s : TrackSet) → TailZero (shape z) (cells (shape z) out) s
   good-tail g s t h k = record { zero = λ m p q. g .tail s t m h (omega arith) p q }
 

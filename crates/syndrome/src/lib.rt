@@ -243,7 +243,8 @@ pub fn is_good(out: &[u8], syn: &[u8], z: Sizes) -> bool
     requires { ⌜ Kept z (now out) (now syn) ⌝ }
     ensures { λ r. ⌜ Tested (shape z) (cells (shape z) (now (out .entry))) r ⌝ }
 {
-    if !track::all_zero(syn) {
+    let l = z.positions + (z.t1 + z.t2 + 1);
+    if !track::all_zero(&syn[0..4 * l]) {
         return false;
     }
     if !tail_zero(out, z, 0) {

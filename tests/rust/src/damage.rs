@@ -11,15 +11,27 @@ pub fn rounds(default: u64) -> u64 {
     setting("AXP_ROUNDS", default)
 }
 
+pub fn seed() -> u64 {
+    setting("AXP_SEED", 1)
+}
+
 /// SplitMix64: the whole run follows from its seed.
 pub struct Random(pub u64);
 
 impl Random {
     /// The generator of a test.
     pub fn of(test: &str) -> Random {
-        let seed = setting("AXP_SEED", 1);
-        println!("{test}: seed {seed}");
-        Random(seed.wrapping_mul(0x1234_5678_9abc_def1) ^ test.len() as u64)
+        println!("{test}: seed {}", seed());
+        Random::named(seed(), test)
+    }
+
+    /// The generator of a seed and a name, each letter of which goes into it.
+    pub fn named(seed: u64, name: &str) -> Random {
+        let mut random = Random(seed);
+        for letter in name.bytes() {
+            random.0 = random.next() ^ letter as u64;
+        }
+        random
     }
 
     pub fn next(&mut self) -> u64 {

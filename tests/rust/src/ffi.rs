@@ -22,18 +22,27 @@ extern "C" {
     fn axp_trace(blocks: u32, flags: u32, image: *const u8, image_len: usize, out: *mut u8, out_len: usize) -> Answer;
 }
 
-pub fn encode(blocks: u32, payload: &[u8], out: &mut [u8]) -> Answer {
-    unsafe { axp_encode(blocks, payload.as_ptr(), payload.len(), out.as_mut_ptr(), out.len()) }
+/// A call, with its flags where it takes some.
+#[derive(Clone, Copy, Debug, PartialEq, Eq)]
+pub enum Call {
+    Encode,
+    Read,
+    Repair(u32),
+    Trace(u32),
 }
 
-pub fn read(blocks: u32, image: &[u8], out: &mut [u8]) -> Answer {
-    unsafe { axp_read(blocks, image.as_ptr(), image.len(), out.as_mut_ptr(), out.len()) }
-}
-
-pub fn repair(blocks: u32, flags: u32, image: &[u8], out: &mut [u8]) -> Answer {
-    unsafe { axp_repair(blocks, flags, image.as_ptr(), image.len(), out.as_mut_ptr(), out.len()) }
-}
-
-pub fn trace(blocks: u32, flags: u32, image: &[u8], out: &mut [u8]) -> Answer {
-    unsafe { axp_trace(blocks, flags, image.as_ptr(), image.len(), out.as_mut_ptr(), out.len()) }
+impl Call {
+    /// Calls the archive.
+    pub fn make(self, blocks: u32, input: &[u8], out: &mut [u8]) -> Answer {
+        let (from, from_len) = (input.as_ptr(), input.len());
+        let (to, to_len) = (out.as_mut_ptr(), out.len());
+        unsafe {
+            match self {
+                Call::Encode => axp_encode(blocks, from, from_len, to, to_len),
+                Call::Read => axp_read(blocks, from, from_len, to, to_len),
+                Call::Repair(flags) => axp_repair(blocks, flags, from, from_len, to, to_len),
+                Call::Trace(flags) => axp_trace(blocks, flags, from, from_len, to, to_len),
+            }
+        }
+    }
 }

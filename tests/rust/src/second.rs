@@ -2,8 +2,8 @@
 //! equations over cell indices, for any shape of record, and unknown cells are found by peeling (an equation with one
 //! unknown cell gives it) and, where that stalls, by elimination, which also tells whether there are two solutions.
 
-use crate::ffi::{Answer, NO_EXTRA};
-use std::collections::HashSet;
+use crate::ffi::{Answer, Call, NO_EXTRA};
+use std::sync::OnceLock;
 
 /// The closing of the tail: rule 3 carries the vertical tracks through it, or they are 0 there.
 #[derive(Clone, Copy, Debug, PartialEq, Eq)]
@@ -86,12 +86,83 @@ impl Shape {
     }
 }
 
+/// Lists of indices, kept one after the other.
+struct Lists {
+    items: Vec<u32>,
+    /// Where each list begins, and where the last one ends.
+    bounds: Vec<usize>,
+}
+
+impl Lists {
+    fn new() -> Lists {
+        Lists { items: Vec::new(), bounds: vec![0] }
+    }
+
+    fn push(&mut self, list: impl Iterator<Item = usize>) {
+        self.items.extend(list.map(|i| i as u32));
+        self.bounds.push(self.items.len());
+    }
+
+    fn get(&self, i: usize) -> impl Iterator<Item = usize> + '_ {
+        self.items[self.bounds[i]..self.bounds[i + 1]].iter().map(|&i| i as usize)
+    }
+
+    fn len(&self) -> usize {
+        self.bounds.len() - 1
+    }
+
+    /// For each index below `count`, the numbers of the lists that it stands in.
+    fn transposed(&self, count: usize) -> Lists {
+        let mut bounds = vec![0; count + 1];
+        self.items.iter().for_each(|&i| bounds[i as usize + 1] += 1);
+        (0..count).for_each(|i| bounds[i + 1] += bounds[i]);
+        let mut next = bounds.clone();
+        let mut items = vec![0; self.items.len()];
+        for number in 0..self.len() {
+            for i in self.get(number) {
+                items[next[i]] = number as u32;
+                next[i] += 1;
+            }
+        }
+        Lists { items, bounds }
+    }
+}
+
 /// The equations of a record: each is a list of cell indices whose sum is 0 modulo 2.
 pub struct Rules {
     pub shape: Shape,
-    pub equations: Vec<Vec<usize>>,
+    equations: Lists,
     /// The equations that each cell stands in.
-    pub at: Vec<Vec<usize>>,
+    at: Lists,
+}
+
+/// An equation while cells are unknown.
+#[derive(Clone, Copy)]
+struct Equation {
+    /// The number of its unknown cells.
+    missing: u32,
+    /// The exclusive or of their indices: the index of the last one.
+    cells: u32,
+    /// The sum of its known cells.
+    sum: u8,
+}
+
+/// An image with unknown cells.
+#[derive(Clone)]
+struct Partial {
+    image: Vec<u8>,
+    unknown: Vec<bool>,
+    equations: Vec<Equation>,
+    /// The equations with one unknown cell, or that had one.
+    ready: Vec<usize>,
+}
+
+impl Partial {
+    fn copy_from(&mut self, other: &Partial) {
+        self.image.copy_from_slice(&other.image);
+        self.unknown.copy_from_slice(&other.unknown);
+        self.equations.copy_from_slice(&other.equations);
+    }
 }
 
 impl Rules {
@@ -102,36 +173,37 @@ impl Rules {
             Closing::Closed => (shape.length(), 0),
             Closing::Open => (shape.positions, 1),
         };
-        let mut equations: Vec<Vec<usize>> = Vec::new();
+        let mut equations = Lists::new();
         for m in 0..shape.length() {
             for set in 0..2 {
                 // Rules 1 and 2: the set's own tracks at m - t, the other's at m - (lag - t).
                 let other = 1 - set;
                 let own = (0..=shape.data_tracks(set)).filter(|&t| m >= t).map(|t| shape.index(set, t, m - t));
                 let across = (0..=shape.data_tracks(other)).filter(|&t| m + t >= lag);
-                equations.push(own.chain(across.map(|t| shape.index(other, t, m + t - lag))).collect());
+                equations.push(own.chain(across.map(|t| shape.index(other, t, m + t - lag))));
                 // Rule 3.
                 if m < vertical_end {
-                    equations.push((0..shape.tracks(set)).map(|t| shape.index(set, t, m)).collect());
+                    equations.push((0..shape.tracks(set)).map(|t| shape.index(set, t, m)));
                 }
                 // Rule 4.
                 if m >= shape.positions {
-                    equations.extend((1..=shape.data_tracks(set) + vertical_too).map(|t| vec![shape.index(set, t, m)]));
+                    for t in 1..=shape.data_tracks(set) + vertical_too {
+                        equations.push(std::iter::once(shape.index(set, t, m)));
+                    }
                 }
             }
         }
-        let mut at = vec![Vec::new(); shape.size()];
-        for (i, e) in equations.iter().enumerate() {
-            for &c in e {
-                at[c].push(i);
-            }
-        }
+        let at = equations.transposed(shape.size());
         Rules { shape, equations, at }
     }
 
+    /// The sum of an equation's cells.
+    fn sum(&self, i: usize, image: &[u8]) -> u8 {
+        self.equations.get(i).fold(0, |sum, c| sum ^ image[c] & 1)
+    }
+
     pub fn is_good(&self, image: &[u8]) -> bool {
-        image.iter().all(|&x| x < 2)
-            && self.equations.iter().all(|e| e.iter().map(|&c| image[c] as usize).sum::<usize>() % 2 == 0)
+        image.iter().all(|&x| x < 2) && (0..self.equations.len()).all(|i| self.sum(i, image) == 0)
     }
 
     /// The cells of the flagged tracks.
@@ -139,36 +211,86 @@ impl Rules {
         (0..self.shape.size()).map(|c| flags >> (c / self.shape.length()) & 1 == 1).collect()
     }
 
-    /// The good record that equals the image off the unknown cells, by peeling, then elimination if that stalls;
-    /// None where there is none. Panics where there are two: then the unknown cells were too many.
+    /// The good record that equals the image off the unknown cells; None where there is none. Panics where there are
+    /// two: then the unknown cells were too many.
     pub fn peel(&self, unknown: &[bool], image: &[u8]) -> Option<Vec<u8>> {
-        let mut out = image.to_vec();
-        let mut left = unknown.to_vec();
-        let mut missing: Vec<usize> =
-            self.equations.iter().map(|e| e.iter().filter(|&&c| left[c]).count()).collect();
-        let mut ready: Vec<usize> = (0..self.equations.len()).filter(|&i| missing[i] == 1).collect();
+        self.in_reach(unknown, &[0], image).pop()
+    }
+
+    /// All good records that differ from the image only in unknown cells and in the tracks of one of the choices.
+    pub fn in_reach(&self, unknown: &[bool], choices: &[u32], image: &[u8]) -> Vec<Vec<u8>> {
+        let sums = (0..self.equations.len()).map(|i| Equation { missing: 0, cells: 0, sum: self.sum(i, image) });
+        let mut start = Partial {
+            image: image.to_vec(),
+            unknown: vec![false; image.len()],
+            equations: sums.collect(),
+            ready: Vec::new(),
+        };
+        (0..image.len()).filter(|&c| unknown[c]).for_each(|c| self.forget(&mut start, c));
+        let mut partial = start.clone();
+        let mut found: Vec<Vec<u8>> = Vec::new();
+        for choice in choices {
+            partial.copy_from(&start);
+            for g in (0..self.shape.all_tracks()).filter(|g| choice >> g & 1 == 1) {
+                let cells = g * self.shape.length()..(g + 1) * self.shape.length();
+                cells.filter(|&c| !unknown[c]).for_each(|c| self.forget(&mut partial, c));
+            }
+            if self.solve(&mut partial) && !found.contains(&partial.image) && self.is_good(&partial.image) {
+                found.push(partial.image.clone());
+            }
+        }
+        found
+    }
+
+    /// Takes a known cell for unknown.
+    fn forget(&self, partial: &mut Partial, cell: usize) {
+        partial.unknown[cell] = true;
+        for i in self.at.get(cell) {
+            let e = &mut partial.equations[i];
+            e.missing += 1;
+            e.cells ^= cell as u32;
+            e.sum ^= partial.image[cell] & 1;
+        }
+    }
+
+    /// Finds the unknown cells by peeling, then elimination if that stalls. False where there is no solution, at once
+    /// where an equation without unknown cells fails.
+    fn solve(&self, partial: &mut Partial) -> bool {
+        let Partial { image, unknown, equations, ready } = partial;
+        ready.clear();
+        for (i, e) in equations.iter().enumerate() {
+            match (e.missing, e.sum) {
+                (0, 1) => return false,
+                (1, _) => ready.push(i),
+                _ => {}
+            }
+        }
         while let Some(i) = ready.pop() {
-            if missing[i] != 1 {
+            let Equation { missing, cells, sum } = equations[i];
+            if missing != 1 {
                 continue;
             }
-            let e = &self.equations[i];
-            let cell = *e.iter().find(|&&c| left[c]).unwrap();
-            let sum: u32 = e.iter().filter(|&&c| c != cell).map(|&c| out[c] as u32).sum();
-            out[cell] = (sum % 2) as u8;
-            left[cell] = false;
-            for &j in &self.at[cell] {
-                missing[j] -= 1;
-                if missing[j] == 1 {
-                    ready.push(j);
+            let cell = cells as usize;
+            image[cell] = sum;
+            unknown[cell] = false;
+            for j in self.at.get(cell) {
+                let e = &mut equations[j];
+                e.missing -= 1;
+                e.cells ^= cells;
+                e.sum ^= sum;
+                match (e.missing, e.sum) {
+                    (0, 1) => return false,
+                    (1, _) => ready.push(j),
+                    _ => {}
                 }
             }
         }
-        if left.contains(&true) {
-            let (solution, free) = self.eliminate(&left, &out)?;
+        if unknown.contains(&true) {
+            let Some((solution, free)) = self.eliminate(unknown, image) else { return false };
             assert!(free == 0, "cells left over, {:?}", self.shape);
-            out = solution;
+            *image = solution;
         }
-        self.is_good(&out).then_some(out)
+        true
     }
 
     /// The dimension of the set of good records that are 0 off the unknown cells: 0 exactly if these leave no doubt.
@@ -189,9 +311,9 @@ impl Rules {
         }
         let bit = |row: &[u64], k: usize| row[k / 64] >> (k % 64) & 1;
         let mut rows: Vec<Vec<u64>> = Vec::new();
-        for e in &self.equations {
+        for i in 0..self.equations.len() {
             let mut row = vec![0u64; last / 64 + 1];
-            for &c in e {
+            for c in self.equations.get(i) {
                 let value = if unknown[c] { 1 } else { image[c] as u64 & 1 };
                 row[column[c] / 64] ^= value << (column[c] % 64);
             }
@@ -225,16 +347,12 @@ impl Rules {
         }
         Some((out, last - leading.len()))
     }
+}
 
-    /// All good records that differ from the image only in unknown cells and in the tracks of one of the choices.
-    pub fn in_reach(&self, unknown: &[bool], choices: &[u32], image: &[u8]) -> Vec<Vec<u8>> {
-        let mut found = HashSet::new();
-        for &choice in choices {
-            let cells: Vec<bool> = self.flagged(choice).iter().zip(unknown).map(|(x, y)| x | y).collect();
-            found.extend(self.peel(&cells, image));
-        }
-        found.into_iter().collect()
-    }
+/// The rules of document 01's record, for up to 257 blocks; they are made once.
+pub fn base(blocks: u32) -> &'static Rules {
+    static ALL: [OnceLock<Rules>; 258] = [const { OnceLock::new() }; 258];
+    ALL[blocks as usize].get_or_init(|| Rules::new(Shape::base(blocks)))
 }
 
 /// The table's code for a flag word.
@@ -307,22 +425,38 @@ pub fn number(answer: u32, detail: u32) -> Answer {
     Answer { answer, detail, mask: 0, cells: 0, extra_a: NO_EXTRA, extra_b: NO_EXTRA }
 }
 
-/// What document 01 says of repair (extras: false) or tracing: the answer and every byte of the output.
-pub fn expected(rules: &Rules, flags: u32, image: &[u8], before: &[u8], extras: bool) -> (Answer, Vec<u8>) {
-    let shape = rules.shape;
+/// What document 01 says of a call on an output of these bytes: the answer and every byte that it leaves there.
+pub fn expected(call: Call, blocks: u32, input: &[u8], before: &[u8]) -> (Answer, Vec<u8>) {
     let refused = |answer, detail| (number(answer, detail), before.to_vec());
-    if shape.positions == 0 || shape.positions > 8 * 256 {
+    if blocks == 0 || blocks > 256 {
         return refused(1, 0);
     }
-    if image.len() != shape.size() {
+    let shape = Shape::base(blocks);
+    let (input_len, result_len) = match call {
+        Call::Encode => (shape.payload_size(), shape.size()),
+        Call::Read => (shape.size(), shape.payload_size()),
+        Call::Repair(_) | Call::Trace(_) => (shape.size(), shape.size()),
+    };
+    if input.len() != input_len {
         return refused(2, 0);
     }
-    if before.len() < shape.size() {
+    if before.len() < result_len {
         return refused(3, 0);
     }
-    if let Some(i) = image.iter().position(|&x| x > 1) {
+    let rules = base(blocks);
+    let result = |bytes: &[u8]| (number(0, 0), [bytes, &before[result_len..]].concat());
+    if call == Call::Encode {
+        return result(&encode(rules, input));
+    }
+    if let Some(i) = input.iter().position(|&x| x > 1) {
         return refused(4, i as u32);
     }
+    let (flags, extras) = match call {
+        Call::Repair(flags) => (flags, false),
+        Call::Trace(flags) => (flags, true),
+        _ if rules.is_good(input) => return result(&payload(shape, input)),
+        _ => return refused(7, 0),
+    };
     if flags >> shape.all_tracks() != 0 {
         return refused(5, 0);
     }
@@ -330,7 +464,7 @@ pub fn expected(rules: &Rules, flags: u32, image: &[u8], before: &[u8], extras: 
         return refused(6, 0);
     }
     let choices = if extras { choices(shape, flags) } else { vec![0] };
-    reached(rules, &rules.flagged(flags), &choices, image, before)
+    reached(rules, &rules.flagged(flags), &choices, input, before)
 }
 
 /// Answer 0 with the good record in reach, or 7 with a copy of the image, and every byte of the output.

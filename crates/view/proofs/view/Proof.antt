@@ -1,18 +1,18 @@
 -- `view` meets its contract: an empty part, or the stretch.
-use mathlib.Core.Path.{refl}
-use Prim.Native.Nat.{_+_, _*_, _<_, _≤_}
+use mathlib.Core.Path.{_≡_, refl, ap}
+use Prim.Native.Nat.{ℕ, _+_, _*_, _-_, _<_, _≤_}
 use native.Mathlib.Omega.{arith}
 use denote.Ref.{now}
-use lib.ListN.{length}
+use lib.Arith.{digits-lt}
+use lib.ListN.{length, take, drop}
 use Rattle.code.specs.Record.{base}
 use Rattle.code.specs.Numbers.{input-checks, Passed}
 use Rattle.code.proofs.Numbers.{passed-exact}
-use Rattle.syndrome.proofs.Table.{row-end}
 use Rattle.checks.proofs.Refusing.{input-passes}
-use Rattle.codec.proofs.Answering.{not-viewed, no-track, viewed}
+use Rattle.view.proofs.Answering.{not-viewed, no-track, viewed}
 use borrow.Author.Needs.{needs}
-use Rattle.codec.proofs.view.Statement.{statement}
-use Rattle.codec.proofs.view.Tie as tie
+use Rattle.view.proofs.view.Statement.{statement}
+use Rattle.view.proofs.view.Tie as tie
 
 -- The count and the image's length are right.
 passed : (c : tie.Else1) → let a = c .before .before .before .before .args in
@@ -25,7 +25,8 @@ room : (c : tie.Else2) → let a = c .before .before .before .before .before .ar
 room c =
     let a = c .before .before .before .before .before .args in
     let few : a .g < 18 = omega arith in
-    omega (arith, row-end (8 * a .blocks + 15) _ _ few, passed-exact _ _ _ (passed (c .before)))
+    let last : 8 * a .blocks + 14 < 8 * a .blocks + 15 = omega arith in
+    omega (arith, digits-lt few last, passed-exact _ _ _ (passed (c .before)))
 
 mul-l : tie.Need-mul-l
 mul-l c = search needs
@@ -80,12 +81,15 @@ part-result-start-3 : tie.Need-part-result-start-3
 part-result-start-3 c = search needs
 
 part-result-end-3 : tie.Need-part-result-end-3
-part-result-end-3 c = room c
+part-result-end-3 c = omega (arith, room c)
 
 returns-3 : tie.Need-returns-3
 returns-3 c =
     let a = c .before .before .before .before .before .before .args in
-    viewed (base (a .blocks)) (a .blocks) (now (a .image)) (a .g) (passed (c .before .before)) (λ h. omega (arith, c .before .if2 .left))
+    let l = 8 * a .blocks + 15 in
+    let whole : a .g * l + l - a .g * l ≡ l = omega arith in
+    viewed (base (a .blocks)) (a .blocks) (now (a .image)) (a .g) (passed (c .before .before)) _ (λ h. omega (arith, c .before .if2 .left))
+    (ap (λ (k : ℕ). take k (drop (a .g * l) (now (a .image)))) whole)
 
 pub view-spec : {M : Type 1} → statement M
 view-spec =

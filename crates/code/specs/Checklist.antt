@@ -1,0 +1,38 @@
+-- Document 01, "Reviewer's checklist": wrong repairers and tracers that are rejected. `rejected` of proofs/Checklist has them all.
+use mathlib.Core.Path.{_≡_}
+use mathlib.Core.List.{List}
+use Prim.Native.Nat.{ℕ, _<_}
+use lib.ListN.{length, getD}
+use Rattle.code.specs.Record.{base}
+use Rattle.code.specs.Image.{image-size}
+use Rattle.code.specs.Numbers.{Passed}
+use Rattle.code.specs.Calls.{Result, early-checks}
+use Rattle.code.specs.Supply.{Mending, mend, Right}
+
+-- A program: block count, flag word, image, output as it came; result and output.
+abbrev pub Program : Type 0
+Program = ℕ → ℕ → List ℕ → List ℕ → Result × List ℕ
+
+-- It meets the contract of repair or of tracing.
+abbrev pub Meets : Mending → Program → Type 0
+Meets way p = (n flags : ℕ) (image before : List ℕ) → Right (mend way n flags image before) (p n flags image before .0) (p n flags image before .1)
+
+-- This holds of what it gives whenever numbers 1 to 5 do not apply, whatever it gives where they do.
+abbrev pub Always : (ℕ → List ℕ → List ℕ → Result → List ℕ → Type 0) → Program → Type 0
+Always P p = (n flags : ℕ) (image before : List ℕ) → Passed (early-checks (base n) n flags image (length before)) →
+    P n image before (p n flags image before .0) (p n flags image before .1)
+
+-- The output's first bytes are these.
+abbrev pub Holds : ℕ → (ℕ → ℕ) → List ℕ → Type 0
+Holds n bytes after = (i : ℕ) → i < image-size (base n) → getD after i 0 ≡ bytes i
+
+pub record Rejected (way : Mending) (p : Program) : Type 0 where
+  -- "a repairer that copies the read tracks and says 0"
+  pub copies : Always (λ n image before r after. (r .answer ≡ 0) × Holds n (λ i. getD image i 0) after) p → ⊥
+  -- "the all-zero record for every image"
+  pub zero-record : Always (λ n image before r after. Holds n (λ i. 0) after) p → ⊥
+  -- "7 or 6 to all"
+  pub seven : Always (λ n image before r after. r .answer ≡ 7) p → ⊥
+  pub six : Always (λ n image before r after. r .answer ≡ 6) p → ⊥
+  -- "an untouched output"
+  pub untouched : Always (λ n image before r after. after ≡ before) p → ⊥

@@ -1,0 +1,317 @@
+//! The comparison of the archive with document 01's examples and with the second decoder, in classes of inputs: each
+//! takes its generator, the number of rounds and the tally.
+
+use crate::damage::{damage, Random};
+use crate::ffi::{Answer, Call};
+use crate::second::{base, code, expected, number, Shape};
+
+/// The calls in the tally's order, and the answers that each can give.
+pub const CALLS: [(&str, &[usize]); 4] = [
+    ("encode", &[0, 1, 2, 3]),
+    ("read", &[0, 1, 2, 3, 4, 7]),
+    ("repair", &[0, 1, 2, 3, 4, 5, 6, 7]),
+    ("trace", &[0, 1, 2, 3, 4, 5, 6, 7]),
+];
+
+/// A class of inputs.
+pub type Class = fn(&mut Random, u64, &mut Tally);
+
+/// The classes, by the name that their generator has too.
+pub const CLASSES: [(&str, Class); 8] = [
+    ("examples", examples),
+    ("every_block_count", every_block_count),
+    ("damaged_records", damaged_records),
+    ("long_records", long_records),
+    ("noise", noise),
+    ("all_flag_words", all_flag_words),
+    ("lengths_and_cells", lengths_and_cells),
+    ("too_many_is_too_many", too_many_is_too_many),
+];
+
+/// The compared calls: calls of the archive of which the answer and every byte of the output were compared.
+pub struct Tally {
+    /// For the description of a difference.
+    pub class: &'static str,
+    pub seed: u64,
+    /// By call and answer.
+    pub counts: [[u64; 8]; 4],
+}
+
+impl Tally {
+    pub fn new(class: &'static str, seed: u64) -> Tally {
+        Tally { class, seed, counts: [[0; 8]; 4] }
+    }
+
+    pub fn total(&self) -> u64 {
+        self.counts.iter().flatten().sum()
+    }
+
+    /// Calls the archive on an output of so many random bytes. Panics with the input's description where the answer, a
+    /// byte of the output or one of the eight bytes behind it is not as the second decoder says.
+    fn compare(&mut self, random: &mut Random, call: Call, blocks: u32, input: &[u8], room: usize) -> (Answer, Vec<u8>) {
+        let before = random.bytes(room + 8);
+        let mut out = before.clone();
+        let answer = call.make(blocks, input, &mut out[..room]);
+        let (wanted, mut after) = expected(call, blocks, input, &before[..room]);
+        after.extend(&before[room..]);
+        if answer != wanted || out != after {
+            panic!(
+                "class {}, seed {}, compared call {}: {call:?}, blocks {blocks}, input of {} bytes, output of {room}\n\
+                 the archive:        {answer:?}\nthe second decoder: {wanted:?}\nfirst different byte: {:?}",
+                self.class,
+                self.seed,
+                self.total(),
+                input.len(),
+                (0..out.len()).find(|&i| out[i] != after[i])
+            );
+        }
+        let row = match call {
+            Call::Encode => 0,
+            Call::Read => 1,
+            Call::Repair(_) => 2,
+            Call::Trace(_) => 3,
+        };
+        self.counts[row][answer.answer as usize] += 1;
+        out.truncate(room);
+        (answer, out)
+    }
+
+    /// A random payload, encoded: the record.
+    fn record(&mut self, random: &mut Random, blocks: u32) -> Vec<u8> {
+        let shape = Shape::base(blocks);
+        let payload = random.bytes(shape.payload_size());
+        let room = shape.size() + random.below(20);
+        let (_, mut image) = self.compare(random, Call::Encode, blocks, &payload, room);
+        image.truncate(shape.size());
+        image
+    }
+
+    /// An image read, repaired and traced, and the record that tracing gave, which is read too.
+    fn decode(&mut self, random: &mut Random, blocks: u32, flags: u32, image: &[u8]) -> Option<Vec<u8>> {
+        let shape = Shape::base(blocks);
+        let payload_room = shape.payload_size() + random.below(20);
+        self.compare(random, Call::Read, blocks, image, payload_room);
+        let room = shape.size() + random.below(20);
+        self.compare(random, Call::Repair(flags), blocks, image, room);
+        let (answer, mut out) = self.compare(random, Call::Trace(flags), blocks, image, room);
+        if answer.answer != 0 {
+            return None;
+        }
+        out.truncate(shape.size());
+        self.compare(random, Call::Read, blocks, &out, payload_room);
+        Some(out)
+    }
+
+    /// A record with up to so many damaged tracks, decoded.
+    fn damaged(&mut self, random: &mut Random, blocks: u32, most: usize) {
+        let shape = Shape::base(blocks);
+        let mut image = self.record(random, blocks);
+        let tracks = some_tracks(random, shape, most);
+        damage(random, shape, &mut image, tracks);
+        let flags = some_flags(random, shape, tracks);
+        self.decode(random, blocks, flags, &image);
+    }
+}
+
+/// Up to so many tracks.
+fn some_tracks(random: &mut Random, shape: Shape, most: usize) -> u32 {
+    let count = random.below(most + 1);
+    random.tracks(shape, count)
+}
+
+/// Flags for damaged tracks: these, some of them, one more, none, others, or with a bit from 18 up.
+fn some_flags(random: &mut Random, shape: Shape, tracks: u32) -> u32 {
+    match random.below(16) {
+        0..=2 => tracks,
+        3..=5 => tracks & random.next() as u32,
+        6..=8 => tracks | 1 << random.below(18),
+        9..=11 => 0,
+        12..=14 => some_tracks(random, shape, 4),
+        _ => tracks | 1 << (18 + random.below(14)),
+    }
+}
+
+/// Document 01's examples.
+pub fn examples(random: &mut Random, _: u64, tally: &mut Tally) {
+    let l = 23;
+    let a = |m: usize, t: usize| t * l + m;
+    let b = |m: usize, t: usize| (9 + t) * l + m;
+    let ones = |cells: &[usize]| {
+        let mut image = vec![0u8; 18 * l];
+        cells.iter().for_each(|&c| image[c] = 1);
+        image
+    };
+    // The output of a call that answers so.
+    let mut gives = |call: Call, blocks: u32, input: &[u8], wanted: Answer| {
+        let room = Shape::base(if blocks == 256 { 256 } else { 1 }).size();
+        let (answer, out) = tally.compare(random, call, blocks, input, room);
+        assert_eq!(answer, wanted, "{call:?}, blocks {blocks}");
+        out
+    };
+    // The all-zero image is good.
+    let zero = ones(&[]);
+    assert_eq!(gives(Call::Read, 1, &zero, number(0, 0))[..14], [0; 14]);
+    // Payload 128, then thirteen 0.
+    let mut payload = vec![0u8; 14];
+    payload[0] = 128;
+    let first = [a(0, 1), a(1, 0), a(0, 8), a(1, 8), b(14, 0), b(14, 8), b(16, 0), b(16, 8)];
+    assert_eq!(gives(Call::Encode, 1, &payload, number(0, 0)), ones(&first));
+    assert_eq!(gives(Call::Read, 1, &ones(&first), number(0, 0))[..14], payload);
+    let repaired = gives(Call::Repair(2), 1, &ones(&first[1..]), Answer { mask: 2, cells: 1, ..number(0, 0) });
+    assert_eq!(repaired, ones(&first));
+    // The others that are proved, run all the same.
+    let two = ones(&[a(0, 1), a(0, 2)]);
+    gives(Call::Trace(0), 1, &two, number(7, 0));
+    gives(Call::Trace(2), 1, &two, Answer { mask: 6, cells: 2, extra_a: 2, ..number(0, 0) });
+    gives(Call::Repair(0), 1, &ones(&[a(22, 8)]), number(7, 0));
+    gives(Call::Trace(0), 1, &ones(&[a(22, 8)]), Answer { mask: 256, cells: 1, extra_a: 8, ..number(0, 0) });
+    gives(Call::Repair(0), 1, &ones(&[a(8, 3)]), number(7, 0));
+    gives(Call::Repair(526), 1, &ones(&[a(3, 1), b(20, 0)]), Answer { mask: 514, cells: 2, ..number(0, 0) });
+    gives(Call::Repair(15), 1, &zero, number(6, 0));
+    gives(Call::Repair(1 << 18), 1, &zero, number(5, 0));
+    // Counts 0 and 257, and 256 with 37,134 cells.
+    for blocks in [0, 257, u32::MAX] {
+        gives(Call::Encode, blocks, &payload, number(1, 0));
+        gives(Call::Read, blocks, &zero, number(1, 0));
+        gives(Call::Repair(0), blocks, &zero, number(1, 0));
+        gives(Call::Trace(0), blocks, &zero, number(1, 0));
+    }
+    let large = vec![0u8; 37_134];
+    assert_eq!(gives(Call::Repair(0), 256, &large, number(0, 0)), large);
+    // Cell value 2 first at index 40.
+    let mut image = zero;
+    image[40] = 2;
+    image[300] = 255;
+    gives(Call::Read, 1, &image, number(4, 40));
+    gives(Call::Repair(0), 1, &image, number(4, 40));
+    gives(Call::Trace(0), 1, &image, number(4, 40));
+}
+
+/// Every block count, once for 2400 rounds: three damaged tracks that are flagged.
+pub fn every_block_count(random: &mut Random, rounds: u64, tally: &mut Tally) {
+    for _ in 0..rounds.div_ceil(2400) {
+        for blocks in 1..=256 {
+            let shape = Shape::base(blocks);
+            let image = tally.record(random, blocks);
+            let flags = random.tracks(shape, 3);
+            let mut damaged = image.clone();
+            damage(random, shape, &mut damaged, flags);
+            assert!(tally.decode(random, blocks, flags, &damaged) == Some(image), "blocks {blocks}, flags {flags}");
+        }
+    }
+}
+
+/// Records of 1 to 12 blocks with up to five damaged tracks, and all kinds of flags.
+pub fn damaged_records(random: &mut Random, rounds: u64, tally: &mut Tally) {
+    for _ in 0..rounds {
+        let blocks = 1 + random.below(12) as u32;
+        tally.damaged(random, blocks, 5);
+    }
+}
+
+/// Records of 200 to 256 blocks with up to three damaged tracks, and all kinds of flags.
+pub fn long_records(random: &mut Random, rounds: u64, tally: &mut Tally) {
+    for _ in 0..rounds / 60 {
+        let blocks = 200 + random.below(57) as u32;
+        tally.damaged(random, blocks, 3);
+    }
+}
+
+/// Images that are no record at all, with every kind of flags.
+pub fn noise(random: &mut Random, rounds: u64, tally: &mut Tally) {
+    for _ in 0..rounds {
+        let blocks = 1 + random.below(12) as u32;
+        let shape = Shape::base(blocks);
+        let image: Vec<u8> = random.bytes(shape.size()).iter().map(|x| x & 1).collect();
+        let tracks = some_tracks(random, shape, 5);
+        let flags = some_flags(random, shape, tracks);
+        tally.decode(random, blocks, flags, &image);
+    }
+}
+
+/// All words of 18 flags, and bits from 18 up alone and beside too many.
+pub fn all_flag_words(random: &mut Random, _: u64, tally: &mut Tally) {
+    let shape = Shape::base(1);
+    let record = tally.record(random, 1);
+    let past = (18..32).flat_map(|g| [1 << g, 1 << g | 15]);
+    for flags in (0..1u32 << 18).chain(past) {
+        let mut image = record.clone();
+        damage(random, shape, &mut image, flags);
+        tally.compare(random, Call::Repair(flags), 1, &image, shape.size());
+        tally.compare(random, Call::Trace(flags), 1, &image, shape.size());
+    }
+}
+
+/// Block counts, lengths, cell values and flags that are right or not, in every mixture.
+pub fn lengths_and_cells(random: &mut Random, rounds: u64, tally: &mut Tally) {
+    for _ in 0..rounds {
+        // The lengths are those of the near count.
+        let near = match random.below(80) {
+            0 => 256,
+            1 => 257,
+            2..=5 => 0,
+            _ => 1 + random.below(12),
+        } as u32;
+        let blocks = match random.below(24) {
+            0 => u32::MAX,
+            1 => near + (1 << (8 + random.below(24))),
+            2 => near + 1,
+            3 => near.wrapping_sub(1),
+            _ => near,
+        };
+        let rules = base(near);
+        let (payload, image) = random.record(rules);
+        let tracks = some_tracks(random, rules.shape, 2);
+        let flags = match random.below(4) {
+            0 => random.next() as u32 >> random.below(32),
+            _ => some_flags(random, rules.shape, tracks),
+        };
+        for call in [Call::Encode, Call::Read, Call::Repair(flags), Call::Trace(flags)] {
+            let (mut input, result) = match call {
+                Call::Encode => (payload.clone(), image.len()),
+                Call::Read => (image.clone(), payload.len()),
+                _ => (image.clone(), image.len()),
+            };
+            if call != Call::Encode {
+                if random.below(2) == 0 {
+                    damage(random, rules.shape, &mut input, tracks);
+                }
+                // Up to two cells of any value above 1.
+                for _ in 0..random.below(6).saturating_sub(3) {
+                    input[random.below(image.len())] = 2 + random.below(254) as u8;
+                }
+            }
+            match random.below(16) {
+                0 => drop(input.pop()),
+                1 => input.push(0),
+                2 => input.truncate(random.below(input.len() + 1)),
+                _ => {}
+            }
+            let room = match random.below(16) {
+                0 => result.saturating_sub(1),
+                1 => random.below(result + 1),
+                2..=7 => result,
+                _ => result + random.below(20),
+            };
+            tally.compare(random, call, blocks, &input, room);
+        }
+    }
+}
+
+/// 6 is given where two good records agree off the flags, and from four blocks up nowhere else.
+pub fn too_many_is_too_many(random: &mut Random, rounds: u64, tally: &mut Tally) {
+    for blocks in [1, 2, 4] {
+        let rules = base(blocks);
+        for _ in 0..rounds / 30 {
+            let mut image = tally.record(random, blocks);
+            let flags = some_tracks(random, rules.shape, 6);
+            damage(random, rules.shape, &mut image, flags);
+            let doubt = rules.doubt(&rules.flagged(flags)) > 0;
+            let too_many = doubt || blocks < 4 && code(rules.shape, flags) == 0;
+            for call in [Call::Repair(flags), Call::Trace(flags)] {
+                let (answer, _) = tally.compare(random, call, blocks, &image, image.len());
+                assert_eq!(answer.answer, if too_many { 6 } else { 0 }, "{call:?}, blocks {blocks}");
+            }
+        }
+    }
+}
