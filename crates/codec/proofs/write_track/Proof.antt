@@ -39,7 +39,7 @@ add-unpack : tie.Need-add-unpack Inv-loop μ-loop
 add-unpack c = omega (arith, has-byte (c .before))
 
 shared-slice-read-unpack : tie.Need-shared-slice-read-unpack Inv-loop μ-loop
-shared-slice-read-unpack c = has-byte (c .before .before)
+shared-slice-read-unpack c = omega (arith, has-byte (c .before .before))
 
 unpack-requires : tie.Need-unpack-requires Inv-loop μ-loop
 unpack-requires c κs = search needs

@@ -59,7 +59,7 @@ step-two-requires-2 c κs =
     let i = v .before .before .before in
     let q = i .before .before in
     let f = q .before .before in
-    (v .step-two .ensures .kept, (omega arith, (i .loop-test .taken, (f .before .find-line3 .ensures, (f .find-line4 .ensures, start q .pre .1 .1)))))
+    (v .step-two .ensures .kept, (omega arith, (omega (arith, i .loop-test .taken), (f .before .find-line3 .ensures, (f .find-line4 .ensures, start q .pre .1 .1)))))
 
 sums-zero-requires : tie.Need-sums-zero-requires Inv-loop μ-loop
 sums-zero-requires c κs = search needs
