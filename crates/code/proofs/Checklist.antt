@@ -1,5 +1,6 @@
 -- What meets a contract is none of the checklist's wrong programs: the document's example with flags 2 tells them apart.
-use mathlib.Core.Path.{_≡_, refl, sym, ap, _∙_}
+use mathlib.Core.Path.{_≡_, refl, ap, _∙_}
+use mathlib.Core.Logic.{_≢_}
 use mathlib.Core.List.{List, [], _∷_, _++_}
 use Prim.Native.Nat.{ℕ, _≤_}
 use native.Mathlib.Omega.{arith}
@@ -10,12 +11,12 @@ use Rattle.code.specs.Reach.{look-up, reach-code, flags-code, none}
 use Rattle.code.specs.Numbers.{Passed, reach-check}
 use Rattle.code.specs.Calls.{Result, changed-in, changed-cells, changed-mask, changed-extra, early-checks}
 use Rattle.code.specs.Examples.{ones, a, rest-of-128, answer-0}
-use Rattle.code.specs.Supply.{Mending, repair, trace, mend, Right}
+use Rattle.code.specs.Supply.{MetNone, Mending, repair, trace, mend, Right}
 use Rattle.code.specs.Checklist.{Program, Meets, Rejected}
 use Rattle.code.proofs.Examples.{flags-of, passed, repair-found, in-a, trace-found, good-128}
 use Rattle.code.proofs.Numbers.{passed-both}
 use Rattle.code.proofs.Spots.{spot, length-ones, ones-at}
-use Rattle.code.proofs.Supply.{point-1}
+use Rattle.code.proofs.Supply.{point-1, point-3}
 use Rattle.code.proofs.Tests.{every}
 
 -- The example: one block, the record of 128 without its cell A(0,1), an output of zeros, and what is right.
@@ -46,28 +47,33 @@ unfolding image before flags-code flag-count sum reach-code look-up
 fit = passed-both (early-checks (base 1) 1 2 image (length before)) (reach-check (base 1) (flags-of 2) ∷ []) (passed 2 rest-of-128 before tt tt room) .0
 
 -- A(0,1) is 0 in the image and in the output as it came, and 1 in the right output.
-in-image : getD image 23 0 ≡ 0
+in-image : getD image (a 0 1) 0 ≡ 0
 unfolding image spot
-in-image = ones-at rest-of-128 23 (omega arith)
+in-image = ones-at rest-of-128 (a 0 1) (omega arith)
 
-in-before : getD before 23 0 ≡ 0
+in-before : getD before (a 0 1) 0 ≡ 0
 unfolding before
 in-before = refl
 
-in-after : getD after 23 0 ≡ 1
+in-after : getD after (a 0 1) 0 ≡ 1
 unfolding after spot
-in-after = List·getD-append (ones (a 0 1 ∷ rest-of-128)) (drop 414 before) 0 23 (omega (arith, length-ones (a 0 1 ∷ rest-of-128)))
-    ∙ ones-at (a 0 1 ∷ rest-of-128) 23 (omega arith)
+in-after = List·getD-append (ones (a 0 1 ∷ rest-of-128)) (drop 414 before) 0 (a 0 1) (omega (arith, length-ones (a 0 1 ∷ rest-of-128)))
+    ∙ ones-at (a 0 1 ∷ rest-of-128) (a 0 1) (omega arith)
 
-pub rejected : (way : Mending) (p : Program) → Meets way p → Rejected way p
+pub rejected : (way : Mending) (p : Program) → Meets way p → Rejected p
 rejected way p meets =
-    let same = point-1 (mend way 1 2 image before) _ _ (right way) .fixed _ _ (meets 1 2 image before) in
+    let met = meets 1 2 image before in
+    let same = point-1 (mend way 1 2 image before) _ _ (right way) .fixed _ _ met in
     let answer = ap (λ (r : Result). r .answer) (same .0) in
-    let cell = ap (λ (bytes : List ℕ). getD bytes 23 0) (same .1) ∙ in-after in
+    let cell = ap (λ (bytes : List ℕ). getD bytes (a 0 1) 0) (same .1) ∙ in-after in
+    let other : (k : ℕ) → 1 ≤ k → p 1 2 image before .0 .answer ≢ k = λ k h e. omega arith in
+    let none-met : MetNone (1 ∷ 2 ∷ 3 ∷ 4 ∷ 5 ∷ []) (p 1 2 image before .0)
+    = (other 1 (omega arith), (other 2 (omega arith), (other 3 (omega arith), (other 4 (omega arith), (other 5 (omega arith), tt))))) in
     record {
-      copies = λ always. omega (arith, always 1 2 image before fit .1 23 (omega arith), in-image, cell);
-      zero-record = λ always. omega (arith, always 1 2 image before fit 23 (omega arith), cell);
+      copies = λ always. omega (arith, always 1 2 image before fit .1 (a 0 1) (omega arith), in-image, cell);
+      invents = λ always. omega (arith, always 1 2 image before fit, point-3 way 1 2 image before _ _ met none-met .number answer);
+      zero-record = λ always. omega (arith, always 1 2 image before fit (a 0 1) (omega arith), cell);
       seven = λ always. omega (arith, always 1 2 image before fit, answer);
       six = λ always. omega (arith, always 1 2 image before fit, answer);
-      untouched = λ always. omega (arith, ap (λ (bytes : List ℕ). getD bytes 23 0) (always 1 2 image before fit), in-before, cell);
+      untouched = λ always. omega (arith, ap (λ (bytes : List ℕ). getD bytes (a 0 1) 0) (always 1 2 image before fit), in-before, cell);
     }

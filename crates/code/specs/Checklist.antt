@@ -1,12 +1,13 @@
--- Document 01, "Reviewer's checklist": wrong repairers and tracers that are rejected. `rejected` of proofs/Checklist has them all.
+-- Document 01, "Reviewer's checklist": what a repairer or a tracer that meets its contract never is. It is proved (`rejected` of
+-- proofs/Checklist).
 use mathlib.Core.Path.{_≡_}
 use mathlib.Core.List.{List}
 use Prim.Native.Nat.{ℕ, _<_}
 use lib.ListN.{length, getD}
 use Rattle.code.specs.Record.{base}
-use Rattle.code.specs.Image.{image-size}
+use Rattle.code.specs.Image.{image-size, cells}
 use Rattle.code.specs.Numbers.{Passed}
-use Rattle.code.specs.Calls.{Result, early-checks}
+use Rattle.code.specs.Calls.{Result, changed-cells, early-checks}
 use Rattle.code.specs.Supply.{Mending, mend, Right}
 
 -- A program: block count, flag word, image, output as it came; result and output.
@@ -26,9 +27,11 @@ Always P p = (n flags : ℕ) (image before : List ℕ) → Passed (early-checks 
 abbrev pub Holds : ℕ → (ℕ → ℕ) → List ℕ → Type 0
 Holds n bytes after = (i : ℕ) → i < image-size (base n) → getD after i 0 ≡ bytes i
 
-pub record Rejected (way : Mending) (p : Program) : Type 0 where
+pub record Rejected (p : Program) : Type 0 where
   -- "a repairer that copies the read tracks and says 0"
   pub copies : Always (λ n image before r after. (r .answer ≡ 0) × Holds n (λ i. getD image i 0) after) p → ⊥
+  -- "invented changed cells"
+  pub invents : Always (λ n image before r after. changed-cells (base n) (cells (base n) image) (cells (base n) after) < r .changed) p → ⊥
   -- "the all-zero record for every image"
   pub zero-record : Always (λ n image before r after. Holds n (λ i. 0) after) p → ⊥
   -- "7 or 6 to all"
