@@ -71,7 +71,7 @@ module _ (z : Sizes) (out syn : List ℕ) (kept : Kept z out syn) where
   rows-at : (i : ℕ) → i < 4 * track-length (shape z) → getD rows i 0 ≡ getD syn i 0
   rows-at i h = part-at syn 0 (4 * track-length (shape z) - 0) i (omega arith) ∙ ap (λ j. getD syn j 0) (omega arith)
 
-  -- It passes the test, or no record is good.
+  -- Where it passes the test all syndromes are 0; where it fails the record is not good.
   pub sums-zero : {r : Bool} → Zeros rows r → r ≡ true → (i : ℕ) → getD syn i 0 ≡ 0
   sums-zero zeros e i = by-cases (decLt i (4 * track-length (shape z)))
       (λ h. sym (rows-at i h) ∙ zeros .all e i)
