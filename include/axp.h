@@ -1,19 +1,25 @@
 /*
  * axp.h - repair of 18-track cartridge records in the adaptive cross-parity code
  *
- * Four calls on numbers and byte slices: an encoder, a reader of good records, a repairer for
- * flagged tracks and a tracer for unflagged ones. Each call always returns, allocates nothing, keeps
- * no state between calls and reads and writes nothing but the slices that it is given, so it may be
- * called from any number of threads at once.
+ * Six calls on numbers and byte slices: an encoder, a reader of good records, a repairer for flagged
+ * tracks, a tracer for unflagged ones, and two calls that turn an image to its packed form and back.
+ * Each call always returns, allocates nothing, keeps no state between calls and reads and writes
+ * nothing but the slices that it is given, so it may be called from any number of threads at once.
  *
  * What a call answers and every byte that it leaves in the output are fixed by the project's
- * document 01 and proved of the code behind axp_encode, axp_read, axp_repair and axp_trace. The
- * static inline functions of this header are conveniences and no proved code.
+ * documents 01 and 02 and proved of the code behind axp_encode, axp_read, axp_repair, axp_trace,
+ * axp_pack and axp_unpack. The static inline functions of this header are conveniences and no proved
+ * code.
  *
  * A record has n blocks, n from 1 to 256, and 18 tracks of L = 8n + 15 cells: tracks 0 to 8 of set A,
  * then tracks 0 to 8 of set B. Its image is 18 * L bytes, one cell a byte, value 0 or 1; track number
  * g (t for track t of A, 9 + t for track t of B) begins at byte g * L. Its payload is 14 bytes a
  * block.
+ *
+ * An image's packed form is 18 * (n + 2) bytes, its tracks in head order, A0, B0, A1, B1, to A8, B8:
+ * track t of A begins at byte 2t * (n + 2), track t of B at byte (2t + 1) * (n + 2). A track takes
+ * n + 2 bytes, eight cells a byte, the first cell most significant: cell m is the bit of value
+ * 128 >> m % 8 in its byte m / 8. L + 1 is 8(n + 2), so the last bit of a track is padding; it is 0.
  *
  * C89 to C23 and C++, with <stdint.h> and <stddef.h>. The inline helpers at the end of this header
  * (axp_flag_a, axp_flag_b, axp_strerror) are there from C99 on and in C++; C89 has no inline functions,
@@ -31,7 +37,7 @@ extern "C" {
 
 /* The version of this header and of the library that it was made for. */
 #define AXP_VERSION_MAJOR 0
-#define AXP_VERSION_MINOR 1
+#define AXP_VERSION_MINOR 2
 #define AXP_VERSION_PATCH 0
 
 /* The most blocks of a record. */
@@ -40,33 +46,39 @@ extern "C" {
 /* The tracks of a record. */
 #define AXP_TRACKS 18
 
-/* The cells of a track, L, the bytes of an image and the bytes of a payload, for n blocks. */
+/* The cells of a track, L, and the bytes of an image, of a payload and of a packed form, for n blocks. */
 #define AXP_TRACK_LENGTH(n) (8 * (size_t)(n) + 15)
 #define AXP_IMAGE_SIZE(n) (AXP_TRACKS * AXP_TRACK_LENGTH(n))
 #define AXP_PAYLOAD_SIZE(n) (14 * (size_t)(n))
+#define AXP_PACKED_SIZE(n) (AXP_TRACKS * ((size_t)(n) + 2))
 
 /* The sizes for 256 blocks: buffers of these sizes serve every record. */
 #define AXP_MAX_IMAGE_SIZE 37134
 #define AXP_MAX_PAYLOAD_SIZE 3584
+#define AXP_MAX_PACKED_SIZE 4644
 
 /* `extra_a` or `extra_b` where no extra track is named. */
 #define AXP_NO_EXTRA 4294967295u
 
 /*
  * The answers, in checking order: the first whose condition holds is given, and AXP_OK where none
- * does. The encoder gives AXP_OK and 1 to 3, the reader AXP_OK, 1 to 4 and 7, repairer and tracer all.
+ * does. The encoder gives AXP_OK and 1 to 3, the reader AXP_OK, 1 to 4 and 7, repairer and tracer
+ * AXP_OK and 1 to 7, packing AXP_OK and 1 to 4, unpacking AXP_OK, 1 to 3 and 8.
  */
 enum axp_answer {
     AXP_OK = 0,          /* the result fills the first bytes of the output; later bytes stay */
     AXP_BLOCK_COUNT = 1, /* the block count is 0 or above 256 */
-    AXP_INPUT_LENGTH = 2,/* the input is not 14n bytes (encoder) or 18 * L bytes (the others) long */
-    AXP_OUTPUT_SHORT = 3,/* the output is shorter than 14n bytes (reader) or 18 * L bytes (the others) */
+    AXP_INPUT_LENGTH = 2,/* the input's length is not that of a payload (encoder), a packed form
+                            (unpacking) or an image (the others) of that block count */
+    AXP_OUTPUT_SHORT = 3,/* the output is shorter than a payload (reader), a packed form (packing) or an
+                            image (the others) of that block count */
     AXP_CELL_VALUE = 4,  /* the image has a cell that is neither 0 nor 1, in a flagged track or not;
                             `detail` is the index of the first one */
     AXP_FLAG_BIT = 5,    /* the flag word has a bit from 18 up */
     AXP_TOO_MANY = 6,    /* more flagged tracks than the code can repair: more than three in a set, or
                             more than four in all */
-    AXP_NO_RECORD = 7    /* no good record is in reach; for the reader: the image is not good */
+    AXP_NO_RECORD = 7,   /* no good record is in reach; for the reader: the image is not good */
+    AXP_PADDING = 8      /* a padding bit of the packed form is 1 */
 };
 
 /*
@@ -98,8 +110,8 @@ typedef struct axp_result {
  * the call. Nothing else is presumed: every block count, length, cell value and flag word has an
  * answer.
  *
- * Answers 1 to 6 leave the output as it came. Bytes of the output past the result stay as they came
- * with every answer.
+ * Answers 1 to 6 and 8 leave the output as it came. Bytes of the output past the result stay as they
+ * came with every answer.
  */
 
 /*
@@ -134,7 +146,7 @@ axp_result axp_read(uint32_t blocks, const uint8_t *image, size_t image_len, uin
  *          the image on every track that is not flagged; there is no other. With AXP_NO_RECORD, given
  *          exactly if there is no such record, they are a copy of the image.
  *
- * Answers: all.
+ * Answers: AXP_OK and 1 to 7.
  */
 axp_result axp_repair(uint32_t blocks, uint32_t flags, const uint8_t *image, size_t image_len, uint8_t *out, size_t out_len);
 
@@ -149,9 +161,32 @@ axp_result axp_repair(uint32_t blocks, uint32_t flags, const uint8_t *image, siz
  *          from the image only in flagged tracks and in extra tracks so allowed; there is no other.
  *          With AXP_NO_RECORD, given exactly if there is no such record, they are a copy of the image.
  *
- * Answers: all.
+ * Answers: AXP_OK and 1 to 7.
  */
 axp_result axp_trace(uint32_t blocks, uint32_t flags, const uint8_t *image, size_t image_len, uint8_t *out, size_t out_len);
+
+/*
+ * Packs an image, good record or not.
+ *
+ * image    AXP_IMAGE_SIZE(blocks) bytes, each 0 or 1.
+ * out      with answer 0 its first AXP_PACKED_SIZE(blocks) bytes are the image's packed form, the
+ *          padding bits 0. axp_unpack accepts them and gives the image back.
+ *
+ * Answers: AXP_OK, AXP_BLOCK_COUNT, AXP_INPUT_LENGTH, AXP_OUTPUT_SHORT, AXP_CELL_VALUE.
+ */
+axp_result axp_pack(uint32_t blocks, const uint8_t *image, size_t image_len, uint8_t *out, size_t out_len);
+
+/*
+ * Unpacks a packed form to its image.
+ *
+ * packed   AXP_PACKED_SIZE(blocks) bytes, every padding bit 0: the last bit of the last byte of each
+ *          track, that of value 1 in byte p * (blocks + 2) + blocks + 1 for p from 0 to 17.
+ * out      with answer 0 its first AXP_IMAGE_SIZE(blocks) bytes are the image, each 0 or 1. axp_pack
+ *          accepts them and gives the packed form back.
+ *
+ * Answers: AXP_OK, AXP_BLOCK_COUNT, AXP_INPUT_LENGTH, AXP_OUTPUT_SHORT, AXP_PADDING.
+ */
+axp_result axp_unpack(uint32_t blocks, const uint8_t *packed, size_t packed_len, uint8_t *out, size_t out_len);
 
 #if defined(__cplusplus) || (defined(__STDC_VERSION__) && __STDC_VERSION__ >= 199901L)
 
@@ -175,6 +210,7 @@ static inline const char *axp_strerror(uint32_t answer)
     case AXP_FLAG_BIT: return "the flag word has a bit past the last track";
     case AXP_TOO_MANY: return "too many flagged tracks";
     case AXP_NO_RECORD: return "no good record is in reach";
+    case AXP_PADDING: return "a padding bit is 1";
     default: return "unknown answer";
     }
 }

@@ -3,12 +3,14 @@ use mathlib.Core.Path.{_≡_, sym, ap, _∙_}
 use mathlib.Core.Logic.{inl, inr}
 use mathlib.Core.List.{List, [], _∷_}
 use Prim.Native.Nat.{ℕ, _*_}
-use Rattle.code.specs.Record.{TrackSet, Shape, Cells}
+use Rattle.code.specs.Record.{TrackSet, Shape, base, Cells}
 use Rattle.code.specs.Image.{cells}
 use Rattle.code.specs.Payload.{payload-size}
+use Rattle.code.specs.Packed.{packed-size}
 use Rattle.code.specs.Reach.{Extra, AtMostOne}
 use Rattle.code.specs.Numbers.{Check, First, Passed}
-use Rattle.code.specs.Calls.{Result, Answered, Encodes, ReadOrNot, mended, Mended, Shown}
+use Rattle.code.specs.Calls.{Result, Answered, Encodes, ReadOrNot, mended, Mended, Packs, Unpacks, Shown}
+use Rattle.code.proofs.Packing.{form-fixed, cell-bits, same-form}
 use Rattle.code.proofs.Payloads.{payload-fixed, same-payload}
 use Rattle.code.proofs.Places.{cell-lt, same-bytes, same-output}
 
@@ -81,6 +83,23 @@ module _ (sh : Shape) (cs : List {1} Check) (before : List ℕ) (r₁ r₂ : Res
   pub mend-determined : (near : Cells → Type 0) (named : List ℕ → TrackSet → Extra) (image : List ℕ) → (Passed cs → AtMostOne sh near) →
       Answered cs (Mended sh near named image before) before r₁ after₁ → Answered cs (Mended sh near named image before) before r₂ after₂ → Equal r₁ r₂ after₁ after₂
   mend-determined near named image one = call-equal cs (Mended sh near named image before) before r₁ r₂ after₁ after₂ (λ p. mended-equal sh near named image (one p))
+
+-- Packing and unpacking.
+module _ (n : ℕ) (cs : List {1} Check) (before : List ℕ) (r₁ r₂ : Result) (after₁ after₂ : List ℕ) where
+  pub pack-determined : (image : List ℕ) →
+      Answered cs (Packs n image before) before r₁ after₁ → Answered cs (Packs n image before) before r₂ after₂ → Equal r₁ r₂ after₁ after₂
+  pack-determined image = call-equal cs (Packs n image before) before r₁ r₂ after₁ after₂ (λ p a b. record {
+    result = a .result ∙ sym (b .result);
+    output = same-bytes (packed-size n) before after₁ after₂ (a .stays) (b .stays) (form-fixed n _ after₁ after₂ (a .form) (b .form));
+  })
+
+  pub unpack-determined : (packed : List ℕ) →
+      Answered cs (Unpacks n packed before) before r₁ after₁ → Answered cs (Unpacks n packed before) before r₂ after₂ → Equal r₁ r₂ after₁ after₂
+  unpack-determined packed = call-equal cs (Unpacks n packed before) before r₁ r₂ after₁ after₂ (λ p a b. record {
+    result = a .result ∙ sym (b .result);
+    output = same-output (base n) before after₁ after₂ (a .stays) (b .stays)
+        (same-form n _ _ packed (cell-bits n after₁ (a .bits)) (cell-bits n after₂ (b .bits)) (a .form) (b .form));
+  })
 
 pub view-determined : (cs : List {1} Check) (sh : Shape) (image : List ℕ) (g : ℕ) (part₁ part₂ : List ℕ) → Shown cs sh image g part₁ → Shown cs sh image g part₂ → part₁ ≡ part₂
 view-determined cs sh image g part₁ part₂ = first-agree cs (λ (c : Check) (a : part₁ ≡ []) (b : part₂ ≡ []). a ∙ sym b) (λ p a b. a ∙ sym b)

@@ -9,7 +9,7 @@ use Rattle.code.specs.Image.{all-tracks}
 use Rattle.code.specs.Flags.{TrackFlags}
 use Rattle.code.specs.Reach.{Extra, none, extra}
 use Rattle.code.specs.Numbers.{Check}
-use Rattle.code.specs.Calls.{Result, plain, Answered, Encodes, ReadOrNot}
+use Rattle.code.specs.Calls.{Result, plain, Answered, ReadOrNot}
 use Rattle.code.specs.Supply.{extra-in, Values}
 use Rattle.code.proofs.Numbers.{Each, answered}
 use Rattle.code.proofs.Places.{number-lt}
@@ -33,13 +33,14 @@ each-numbered : (all : ℕ) (cs : List {1} Check) → Each (λ c. ExtrasNumbered
 each-numbered all [] = tt
 each-numbered all (c ∷ cs) = (plain-numbered all (c .number) (c .detail), each-numbered all cs)
 
-module _ (sh : Shape) (cs : List {1} Check) (before : List ℕ) (r : Result) (after : List ℕ) (n all : ℕ) where
-  pub encode-numbered : (payload : List ℕ) → Answered cs (Encodes sh n payload before) before r after → ExtrasNumbered all r
-  encode-numbered payload = answered (λ r after. ExtrasNumbered all r) cs (Encodes sh n payload before) before r after (each-numbered all cs)
-      (λ a. rw (a .result) (plain-numbered all 0 0))
+module _ (cs : List {1} Check) (before : List ℕ) (r : Result) (after : List ℕ) (all : ℕ) where
+  -- A call whose one answer past its checks is 0, with nothing changed.
+  pub plain-answers-numbered : (done : Result → List ℕ → Type 0) → (done r after → r ≡ plain 0 0) → Answered cs done before r after → ExtrasNumbered all r
+  plain-answers-numbered done ends = answered (λ r after. ExtrasNumbered all r) cs done before r after (each-numbered all cs)
+      (λ a. rw (ends a) (plain-numbered all 0 0))
 
-  pub read-numbered : (image : List ℕ) → Answered cs (ReadOrNot sh n image before) before r after → ExtrasNumbered all r
-  read-numbered image = answered (λ r after. ExtrasNumbered all r) cs (ReadOrNot sh n image before) before r after (each-numbered all cs) go
+  pub read-numbered : (sh : Shape) (n : ℕ) (image : List ℕ) → Answered cs (ReadOrNot sh n image before) before r after → ExtrasNumbered all r
+  read-numbered sh n image = answered (λ r after. ExtrasNumbered all r) cs (ReadOrNot sh n image before) before r after (each-numbered all cs) go
     where
       go : ReadOrNot sh n image before r after → ExtrasNumbered all r
       go (inl a) = rw (a .1 .result) (plain-numbered all 0 0)

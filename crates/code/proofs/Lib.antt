@@ -18,10 +18,12 @@ pub mod Encoding
 pub mod Payloads
 pub mod Table
 pub mod Places
+pub mod Packing
 pub mod Front
 pub mod Numbers
 pub mod Determined
 pub mod RoundTrip
+pub mod Undoing
 pub mod Answering
 pub mod Changed
 pub mod Named

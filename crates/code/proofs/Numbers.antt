@@ -58,6 +58,12 @@ pub first-passed : (cs : List {1} Check) (right : Check → Type 0) (rest : Type
 first-passed [] right rest p r = r
 first-passed (c ∷ cs) right rest p r = inr (p .0, first-passed cs right rest (p .1) r)
 
+-- And what it says then is what the rest does.
+pub first-rest : (cs : List {1} Check) (right : Check → Type 0) (rest : Type 0) → Passed cs → First cs right rest → rest
+first-rest [] right rest p f = f
+first-rest (c ∷ cs) right rest p (inl a) = absurd (p .0 (a .0))
+first-rest (c ∷ cs) right rest p (inr a) = first-rest cs right rest (p .1) (a .1)
+
 -- Of two lists one after the other, both are passed.
 pub passed-both : (cs ds : List {1} Check) → Passed (cs ++ ds) → Passed cs × Passed ds
 passed-both [] ds p = (tt, p)

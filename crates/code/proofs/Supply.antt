@@ -1,4 +1,5 @@
--- The supply of document 01: whatever the contracts allow has the three points, and returns what the document says.
+-- The supply: whatever the contracts allow has the three points, and returns what the documents say. That packing and unpacking undo
+-- each other is in proofs/Undoing.
 use mathlib.Core.Path.{_≡_, refl, sym}
 use mathlib.Core.Logic.{inl, inr}
 use mathlib.Core.List.{List, [], _∷_}
@@ -10,15 +11,21 @@ use Rattle.code.specs.Image.{image-size}
 use Rattle.code.specs.Payload.{payload-size}
 use Rattle.code.specs.Flags.{word-flags}
 use Rattle.code.specs.Reach.{flags-code}
-use Rattle.code.specs.Numbers.{room-check, flag-check, reach-check, input-checks, size-checks, image-checks}
+use Rattle.code.specs.Packed.{packed-size}
+use Rattle.code.specs.Numbers.{room-check, flag-check, reach-check, padding-check, input-checks, size-checks, image-checks}
 use Rattle.code.specs.Calls.{
   Result,
   plain,
   Answered,
   encode-checks,
+  Encodes,
   read-checks,
   early-checks,
   repair-checks,
+  pack-checks,
+  Packs,
+  unpack-checks,
+  Unpacks,
 }
 use Rattle.code.specs.Contracts.{Encoded, WasRead}
 use Rattle.code.specs.Supply.{
@@ -30,6 +37,8 @@ use Rattle.code.specs.Supply.{
   encode,
   read,
   mend,
+  pack,
+  unpack,
   Right,
   output-before,
   OwnAnswer,
@@ -41,9 +50,9 @@ use Rattle.code.specs.Supply.{
   MendPoint3,
   MendValues,
 }
-use Rattle.code.proofs.Answering.{Leaves, Refusal, refusal, sizes, images, encode-leaves, read-leaves, mend-leaves}
-use Rattle.code.proofs.Determined.{Equal, encode-determined, read-determined}
-use Rattle.code.proofs.Extras.{ExtrasNumbered, encode-numbered, read-numbered, values-numbered}
+use Rattle.code.proofs.Answering.{Leaves, Refusal, refusal, sizes, images, plain-leaves, read-leaves, mend-leaves}
+use Rattle.code.proofs.Determined.{Equal, encode-determined, read-determined, pack-determined, unpack-determined}
+use Rattle.code.proofs.Extras.{ExtrasNumbered, plain-answers-numbered, read-numbered, values-numbered}
 use Rattle.code.proofs.Mending.{names-by, Mends, mending-fixed, mending-demanded, mending-values}
 use Rattle.code.proofs.Numbers.{passed-exact, passed-both, each-append}
 use Rattle.code.proofs.RoundTrip.{round-trip}
@@ -65,6 +74,8 @@ determined (read n image before) r other after bytes c d =
 determined (mend way n flags image before) r other after bytes c d =
     mending-fixed way (base n) refl (word-flags (base n) flags) (early-checks (base n) n flags image (length before)) image before r after
     (mends way n flags image before r after c) other bytes (mends way n flags image before other bytes d)
+determined (pack n image before) r other after bytes c d = pack-determined n (pack-checks n image before) before other r bytes after image d c
+determined (unpack n packed before) r other after bytes c d = unpack-determined n (unpack-checks n packed before) before other r bytes after packed d c
 
 -- ## Point 1
 
@@ -73,8 +84,9 @@ leaves : (input : Input) (r : Result) (after : List ℕ) → Right input r after
 leaves (encode n payload before) r after =
     let sh = base n in
     let input = encode n payload before in
-    encode-leaves sh (OwnAnswer input) (encode-checks sh n payload before) before r after n payload (LeftBy7 input) (omega arith)
+    plain-leaves sh (OwnAnswer input) (encode-checks sh n payload before) before r after (Encodes sh n payload before) (LeftBy7 input) (image-size sh) (omega arith)
     (sizes (OwnAnswer input) (LeftBy7 input) (image-size sh) before n (payload-size sh n) (length payload) (image-size sh) (length before) (omega arith) (omega arith) (omega arith))
+    (λ a. (a .result, a .stays))
 leaves (read n image before) r after =
     let sh = base n in
     let own = OwnAnswer (read n image before) in
@@ -86,12 +98,25 @@ leaves (mend way n flags image before) r after =
     let f = word-flags sh flags in
     let input = mend way n flags image before in
     let number : (k : ℕ) → k ≤ 6 → Leaves (OwnAnswer input) (LeftBy7 input) (image-size sh) before (plain k 0) before
-    = λ k l. refusal (OwnAnswer input) (LeftBy7 input) (image-size sh) before k 0 l (omega arith) (λ e. refl) in
+    = λ k l. refusal (OwnAnswer input) (LeftBy7 input) (image-size sh) before k 0 (omega arith) (omega arith) (omega arith) (λ e. refl) in
     λ c. mend-leaves sh (OwnAnswer input) (repair-checks sh n flags f image before) before r after (near-by way sh (flags-code sh f) f image) (names-by way sh f image) image (omega arith) (omega arith)
     (each-append (Refusal (OwnAnswer input) (LeftBy7 input) (image-size sh) before) (image-checks n (image-size sh) image (image-size sh) (length before)) (flag-check sh flags ∷ reach-check sh f ∷ [])
     (images (OwnAnswer input) (LeftBy7 input) (image-size sh) before n (image-size sh) image (image-size sh) (length before) (omega arith) (omega arith) (omega arith) (omega arith))
     (number 5 (omega arith), (number 6 (omega arith), tt)))
     (mends way n flags image before r after c)
+leaves (pack n image before) r after =
+    let input = pack n image before in
+    plain-leaves (base n) (OwnAnswer input) (pack-checks n image before) before r after (Packs n image before) (LeftBy7 input) (packed-size n) (omega arith)
+    (images (OwnAnswer input) (LeftBy7 input) (packed-size n) before n (image-size (base n)) image (packed-size n) (length before) (omega arith) (omega arith) (omega arith) (omega arith))
+    (λ a. (a .result, a .stays))
+leaves (unpack n packed before) r after =
+    let input = unpack n packed before in
+    let size = image-size (base n) in
+    plain-leaves (base n) (OwnAnswer input) (unpack-checks n packed before) before r after (Unpacks n packed before) (LeftBy7 input) size (inl (omega arith))
+    (each-append (Refusal (OwnAnswer input) (LeftBy7 input) size before) (size-checks n (packed-size n) (length packed) size (length before)) (padding-check n packed ∷ [])
+    (sizes (OwnAnswer input) (LeftBy7 input) size before n (packed-size n) (length packed) size (length before) (inl (omega arith)) (inl (omega arith)) (inl (omega arith)))
+    (refusal (OwnAnswer input) (LeftBy7 input) size before 8 0 (omega arith) (omega arith) (inr refl) (λ e. refl), tt))
+    (λ a. (a .result, a .stays))
 
 pub point-1 : (input : Input) (r : Result) (after : List ℕ) → Right input r after → Point1 input r after
 point-1 input r after c =
@@ -132,6 +157,10 @@ values way n flags image before r after c =
 
 -- The extras that the calls name are below 18.
 pub extras-numbered : (input : Input) (r : Result) (after : List ℕ) → Right input r after → ExtrasNumbered 18 r
-extras-numbered (encode n payload before) r after c = encode-numbered (base n) (encode-checks (base n) n payload before) before r after n 18 payload c
-extras-numbered (read n image before) r after c = read-numbered (base n) (read-checks (base n) n image before) before r after n 18 image c
+extras-numbered (encode n payload before) r after c =
+    plain-answers-numbered (encode-checks (base n) n payload before) before r after 18 (Encodes (base n) n payload before) (λ a. a .result) c
+extras-numbered (read n image before) r after c = read-numbered (read-checks (base n) n image before) before r after 18 (base n) n image c
 extras-numbered (mend way n flags image before) r after c = values-numbered (base n) _ _ image r after (values way n flags image before r after c)
+extras-numbered (pack n image before) r after c = plain-answers-numbered (pack-checks n image before) before r after 18 (Packs n image before) (λ a. a .result) c
+extras-numbered (unpack n packed before) r after c =
+    plain-answers-numbered (unpack-checks n packed before) before r after 18 (Unpacks n packed before) (λ a. a .result) c

@@ -1,5 +1,5 @@
--- Document 01: for each call, which answer and which output bytes are right for an input, over any shape, any list of checks and any
--- flags. Contracts.antt has the calls of document 01 with its own.
+-- For each call, which answer and which output bytes are right for an input: those of document 01 over any shape, any list of checks
+-- and any flags, then what document 02 adds. Contracts.antt has the calls.
 use mathlib.Core.Path.{_≡_}
 use mathlib.Core.Logic.{_⊎_}
 use mathlib.Core.Bool.{_&&_, not}
@@ -7,15 +7,17 @@ use mathlib.Core.List.{List, [], _∷_, _++_}
 use Prim.Native.Nat.{ℕ, zero, suc, _+_, _*_, _^_, _<_, _≤_}
 use lib.ListN.{length, getD, take, drop}
 use lib.Dec.{eqb}
-use Rattle.code.specs.Record.{TrackSet, A, B, Shape, tracks, track-length, Cells, sum, Good}
+use Rattle.code.specs.Record.{TrackSet, A, B, Shape, base, tracks, track-length, Cells, sum, Good}
 use Rattle.code.specs.Image.{track-number, all-tracks, image-size, cells}
 use Rattle.code.specs.Payload.{payload-size, Carries}
 use Rattle.code.specs.Flags.{TrackFlags, CellFlags, AgreeOff}
 use Rattle.code.specs.Reach.{pick, Extra, none, extra, InReach}
+use Rattle.code.specs.Packed.{packed-size, PackedForm}
 use Rattle.code.specs.Numbers.{
   Check,
   flag-check,
   reach-check,
+  padding-check,
   input-checks,
   size-checks,
   image-checks,
@@ -189,3 +191,27 @@ view-checks sh n image g = input-checks n (image-size sh) (length image) ++ (tra
 -- The stretch of track number g, or an empty part where a check applies.
 abbrev pub Shown : List {1} Check → Shape → List ℕ → ℕ → List ℕ → Type 0
 Shown checks sh image g part = First checks (λ c. part ≡ []) (part ≡ take (track-length sh) (drop (g * track-length sh) image))
+
+-- ## Document 02, note 1: packing and unpacking
+
+-- Packing gives 1 to 4.
+abbrev pub pack-checks : ℕ → List ℕ → List ℕ → List {1} Check
+pack-checks n image before = image-checks n (image-size (base n)) image (packed-size n) (length before)
+
+-- 0: the output's first bytes are the image's packed form.
+pub record Packs (n : ℕ) (image before : List ℕ) (r : Result) (after : List ℕ) : Type 0 where
+  pub result : r ≡ plain 0 0
+  pub form : PackedForm n (cells (base n) image) after
+  pub stays : Stays (packed-size n) before after
+
+-- Unpacking gives 1 to 3 and 8.
+abbrev pub unpack-checks : ℕ → List ℕ → List ℕ → List {1} Check
+unpack-checks n packed before =
+    size-checks n (packed-size n) (length packed) (image-size (base n)) (length before) ++ (padding-check n packed ∷ [])
+
+-- 0: the output's first bytes are the image of bits that has this packed form; there is one (`same-form` of proofs/Packing).
+pub record Unpacks (n : ℕ) (packed before : List ℕ) (r : Result) (after : List ℕ) : Type 0 where
+  pub result : r ≡ plain 0 0
+  pub bits : (i : ℕ) → i < image-size (base n) → getD after i 0 < 2
+  pub form : PackedForm n (cells (base n) after) packed
+  pub stays : Stays (image-size (base n)) before after

@@ -1,4 +1,5 @@
--- The contracts of document 01's calls: its shape of n blocks, its checks and its flags, bit g of the flag word for track number g.
+-- The contracts of the calls. Document 01's have its shape of n blocks, its checks and its flags, bit g of the flag word for track number
+-- g.
 use mathlib.Core.List.{List}
 use Prim.Native.Nat.{ℕ}
 use Rattle.code.specs.Record.{base}
@@ -16,6 +17,10 @@ use Rattle.code.specs.Calls.{
   Traces,
   view-checks,
   Shown,
+  pack-checks,
+  Packs,
+  unpack-checks,
+  Unpacks,
 }
 
 -- Encoder: block count, payload, output before, answer, output after.
@@ -45,3 +50,11 @@ Traced n flags image before =
 -- Track view: block count, image, track number, the part handed over.
 abbrev pub Viewed : ℕ → List ℕ → ℕ → List ℕ → Type 0
 Viewed n image g = Shown (view-checks (base n) n image g) (base n) image g
+
+-- Packing, of document 02: block count, image, output before, answer, output after.
+abbrev pub WasPacked : ℕ → List ℕ → List ℕ → Result → List ℕ → Type 0
+WasPacked n image before = Answered (pack-checks n image before) (Packs n image before) before
+
+-- Unpacking: block count, packed form, output before, answer, output after.
+abbrev pub WasUnpacked : ℕ → List ℕ → List ℕ → Result → List ℕ → Type 0
+WasUnpacked n packed before = Answered (unpack-checks n packed before) (Unpacks n packed before) before

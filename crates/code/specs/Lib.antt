@@ -1,9 +1,10 @@
--- What a reader must believe, in the order of document 01.
+-- What a reader must believe, in the order of document 01; what a note of document 02 adds stands beside what it is like.
 pub mod Record
 pub mod Image
 pub mod Payload
 pub mod Flags
 pub mod Reach
+pub mod Packed
 pub mod Numbers
 pub mod Calls
 pub mod Contracts

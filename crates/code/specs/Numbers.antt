@@ -1,4 +1,4 @@
--- Document 01, "Numbers, in checking order".
+-- Document 01, "Numbers, in checking order", and those that document 02 adds.
 use mathlib.Core.Path.{_≡_}
 use mathlib.Core.Logic.{_⊎_, _≢_}
 use mathlib.Core.List.{List, [], _∷_, _++_}
@@ -9,6 +9,7 @@ use Rattle.code.specs.Record.{Shape}
 use Rattle.code.specs.Image.{all-tracks}
 use Rattle.code.specs.Flags.{TrackFlags}
 use Rattle.code.specs.Reach.{pick, flags-code}
+use Rattle.code.specs.Packed.{PaddingSet}
 
 -- A number, the detail that goes with it, and the condition under which it is given.
 pub record Check : Type 1 where
@@ -44,6 +45,10 @@ flag-check sh flags = record { number = 5; detail = 0; applies = 2 ^ all-tracks 
 -- 6: the table's code for the flags is 0.
 abbrev pub reach-check : Shape → TrackFlags → Check
 reach-check sh f = record { number = 6; detail = 0; applies = flags-code sh f ≡ 0 }
+
+-- 8, on unpacking: a padding bit is 1.
+abbrev pub padding-check : ℕ → List ℕ → Check
+padding-check n packed = record { number = 8; detail = 0; applies = PaddingSet n packed }
 
 -- ## Lists of checks, in checking order
 

@@ -1,18 +1,20 @@
--- The three points of the supply, a record a point and a field a sentence, and what document 01 says besides of the values that
--- repair and tracing return. Whatever the contracts allow has them: `point-1`, `point-2`, `point-3` and `values` of proofs/Supply.
+-- The three points of the supply, a record a point and a field a sentence, what document 01 says besides of the values that repair
+-- and tracing return, and what document 02 says of packing. Whatever the contracts allow has them: `point-1`, `point-2`, `point-3`
+-- and `values` of proofs/Supply, `packing-undone` and `unpacking-undone` of proofs/Undoing.
 use mathlib.Core.Path.{_≡_}
 use mathlib.Core.Logic.{_⊎_, _≢_, _↔_}
 use mathlib.Core.Bool.{true, false}
 use mathlib.Core.List.{List, [], _∷_}
 use Prim.Native.Nat.{ℕ, _+_, _*_, _^_, _<_, _≤_}
-use lib.ListN.{getD}
+use lib.ListN.{length, getD, take}
 use Rattle.code.specs.Record.{TrackSet, A, B, Shape, base, tracks, track-length, Cells, Good, Same}
 use Rattle.code.specs.Image.{track-number, all-tracks, image-size, cells}
 use Rattle.code.specs.Payload.{payload-size, Carries}
 use Rattle.code.specs.Flags.{TrackFlags, whole, word-flags, flag-count, Within}
+use Rattle.code.specs.Packed.{packed-size}
 use Rattle.code.specs.Reach.{flags-code, most, Extra, none, extra, AtMostOne, Ambiguous}
 use Rattle.code.specs.Calls.{Result, plain, Stays, changed-in, changed-cells, RepairNear, TraceNear}
-use Rattle.code.specs.Contracts.{Encoded, WasRead, Repaired, Traced}
+use Rattle.code.specs.Contracts.{Encoded, WasRead, Repaired, Traced, WasPacked, WasUnpacked}
 
 -- The call met none of these numbers.
 abbrev pub MetNone : List ℕ → Result → Type 0
@@ -30,6 +32,8 @@ pub data Input : Type 0 where
   encode : (n : ℕ) (payload before : List ℕ) → Input
   read : (n : ℕ) (image before : List ℕ) → Input
   mend : Mending → (n flags : ℕ) (image before : List ℕ) → Input
+  pack : (n : ℕ) (image before : List ℕ) → Input
+  unpack : (n : ℕ) (packed before : List ℕ) → Input
 
 -- Its contract.
 abbrev pub Right : Input → Result → List ℕ → Type 0
@@ -37,41 +41,54 @@ Right (encode n payload before) = Encoded n payload before
 Right (read n image before) = WasRead n image before
 Right (mend repair n flags image before) = Repaired n flags image before
 Right (mend trace n flags image before) = Traced n flags image before
+Right (pack n image before) = WasPacked n image before
+Right (unpack n packed before) = WasUnpacked n packed before
 
 abbrev pub output-before : Input → List ℕ
 output-before (encode n payload before) = before
 output-before (read n image before) = before
 output-before (mend way n flags image before) = before
+output-before (pack n image before) = before
+output-before (unpack n packed before) = before
 
--- "The encoder gives only 1 to 3, the reader 1 to 4 and 7."
+-- "The encoder gives only 1 to 3, the reader 1 to 4 and 7." Of packing and unpacking: "numbers 1 to 4 apply by their own lengths",
+-- and "8, on unpacking".
 abbrev pub OwnAnswer : Input → ℕ → Type 0
 OwnAnswer (encode n payload before) k = k ≤ 3
 OwnAnswer (read n image before) k = (k ≤ 4) ⊎ (k ≡ 7)
 OwnAnswer (mend way n flags image before) k = k ≤ 7
+OwnAnswer (pack n image before) k = k ≤ 4
+OwnAnswer (unpack n packed before) k = (k ≤ 3) ⊎ (k ≡ 8)
 
 -- The size of its result.
 abbrev pub result-size : Input → ℕ
 result-size (encode n payload before) = image-size (base n)
 result-size (read n image before) = payload-size (base n) n
 result-size (mend way n flags image before) = image-size (base n)
+result-size (pack n image before) = packed-size n
+result-size (unpack n packed before) = image-size (base n)
 
 -- "Number 7 leaves the reader's output as it came; after repair or tracing the output's first 18 × L bytes are a copy of the image"
 abbrev pub LeftBy7 : Input → List ℕ → Type 0
 LeftBy7 (encode n payload before) after = after ≡ before
 LeftBy7 (read n image before) after = after ≡ before
 LeftBy7 (mend way n flags image before) after = (i : ℕ) → i < image-size (base n) → getD after i 0 ≡ getD image i 0
+LeftBy7 (pack n image before) after = after ≡ before
+LeftBy7 (unpack n packed before) after = after ≡ before
 
 pub record Point1 (input : Input) (r : Result) (after : List ℕ) : Type 0 where
   -- "The answer to any call but the track view is 0 or one of the seven numbers, for every block count, length, cell value and flag word."
-  pub answer : r .answer ≤ 7
+  -- Document 02: "The later numbers join the seven in point 1 of the supply": eight by now.
+  pub answer : r .answer ≤ 8
   pub own-answer : OwnAnswer input (r .answer)
-  -- "It always comes, it presumes no check made by the calling program," — that the calls of crates/codec, crates/repair and
-  -- crates/axp_c end, and meet `Right` without a `requires`, is what the checker proves of each of them.
+  -- "It always comes, it presumes no check made by the calling program," — that the calls of crates/codec, crates/repair,
+  -- crates/packed and crates/axp_c end, and meet `Right` without a `requires`, is what the checker proves of each of them.
   -- "and beside each number the document fixes every byte of the output."
   pub fixed : (other : Result) (bytes : List ℕ) → Right input other bytes → (other ≡ r) × (bytes ≡ after)
-  -- Document 01: "Numbers 1 to 6 leave the output as it came." "Number 7 leaves …" "With answer 0 the result fills the first bytes and
-  -- later bytes stay." "The detail is 0 except for number 4."
-  pub untouched : 1 ≤ r .answer → r .answer ≤ 6 → after ≡ output-before input
+  -- Document 01: "Numbers 1 to 6 leave the output as it came." Document 02, of 8: "This and every later number leaves the output as it
+  -- came." Document 01: "Number 7 leaves …" "With answer 0 the result fills the first bytes and later bytes stay." "The detail is 0
+  -- except for number 4."
+  pub untouched : r .answer ≢ 0 → r .answer ≢ 7 → after ≡ output-before input
   pub left-by-7 : r .answer ≡ 7 → LeftBy7 input after
   pub later : Stays (result-size input) (output-before input) after
   pub no-detail : r .answer ≢ 4 → r .detail ≡ 0
@@ -173,3 +190,20 @@ MendValues way n flags image =
     let sh = base n in
     let f = word-flags sh flags in
     Values sh f (tracks-allowed way sh (flags-code sh f) f) image
+
+-- ## Document 02, note 1: "Each undoes the other on what it accepts"
+
+-- A call is undone by another: what it gives, the other accepts where its output has room, and gives back what the call was given.
+-- `size` and `room` are the sizes of what the two give.
+pub record Undone (call back : List ℕ → List ℕ → Result → List ℕ → Type 0) (size room : ℕ) : Type 0 where
+  pub accepted : (input before : List ℕ) (r : Result) (after : List ℕ) → call input before r after → r .answer ≡ 0 →
+      (output : List ℕ) (q : Result) (last : List ℕ) → back (take size after) output q last → room ≤ length output → q .answer ≡ 0
+  pub undone : (input before : List ℕ) (r : Result) (after : List ℕ) → call input before r after → r .answer ≡ 0 →
+      (output : List ℕ) (q : Result) (last : List ℕ) → back (take size after) output q last → q .answer ≡ 0 → take room last ≡ input
+
+-- Both ways.
+abbrev pub PackingUndone : ℕ → Type 0
+PackingUndone n = Undone (WasPacked n) (WasUnpacked n) (packed-size n) (image-size (base n))
+
+abbrev pub UnpackingUndone : ℕ → Type 0
+UnpackingUndone n = Undone (WasUnpacked n) (WasPacked n) (image-size (base n)) (packed-size n)
