@@ -105,6 +105,18 @@ static axp_result library_read(uint32_t n, uint32_t flags, const uint8_t *image,
     return axp_read(n, image, len, out, out_len);
 }
 
+static axp_result library_pack(uint32_t n, uint32_t flags, const uint8_t *image, size_t len, uint8_t *out, size_t out_len)
+{
+    (void)flags;
+    return axp_pack(n, image, len, out, out_len);
+}
+
+static axp_result library_unpack(uint32_t n, uint32_t flags, const uint8_t *packed, size_t len, uint8_t *out, size_t out_len)
+{
+    (void)flags;
+    return axp_unpack(n, packed, len, out, out_len);
+}
+
 static axp_result c_encode(uint32_t n, uint32_t flags, const uint8_t *payload, size_t len, uint8_t *out, size_t out_len)
 {
     (void)flags;
@@ -115,6 +127,18 @@ static axp_result c_read(uint32_t n, uint32_t flags, const uint8_t *image, size_
 {
     (void)flags;
     return plain_read(n, image, len, out, out_len);
+}
+
+static axp_result c_pack(uint32_t n, uint32_t flags, const uint8_t *image, size_t len, uint8_t *out, size_t out_len)
+{
+    (void)flags;
+    return plain_pack(n, image, len, out, out_len);
+}
+
+static axp_result c_unpack(uint32_t n, uint32_t flags, const uint8_t *packed, size_t len, uint8_t *out, size_t out_len)
+{
+    (void)flags;
+    return plain_unpack(n, packed, len, out, out_len);
 }
 
 /* The answer 0 with no changed cell. */
@@ -379,14 +403,13 @@ static struct row *add_row(const char *name, size_t input_len, size_t result_len
     return row;
 }
 
-static void free_rows(void)
+/* Frees the last row. */
+static void free_row(void)
 {
-    while (row_count > 0) {
-        struct row *row = &rows[--row_count];
-        for (int i = 0; i < input_count; i++)
-            free(row->inputs[i].memory);
-        free(row->inputs);
-    }
+    struct row *row = &rows[--row_count];
+    for (int i = 0; i < input_count; i++)
+        free(row->inputs[i].memory);
+    free(row->inputs);
 }
 
 static uint8_t *copy_of(const uint8_t *record)
@@ -443,6 +466,58 @@ static void add_read(const char *name)
     struct row *row = add_row(name, AXP_IMAGE_SIZE(blocks), AXP_PAYLOAD_SIZE(blocks), library_read, c_read);
     for (int i = 0; i < input_count; i++)
         row->inputs[i] = (struct input){0, records[i], NULL, payloads[i], unchanged};
+}
+
+/* An image of bits by chance, good record or not, and behind it its packed form, bit by bit. */
+static uint8_t *packed_image(void)
+{
+    size_t l = AXP_TRACK_LENGTH(blocks), size = AXP_IMAGE_SIZE(blocks), n = (size_t)blocks + 2;
+    uint8_t *image = allocate(size + AXP_PACKED_SIZE(blocks));
+    memset(image + size, 0, AXP_PACKED_SIZE(blocks));
+    for (size_t g = 0; g < AXP_TRACKS; g++) {
+        uint8_t *packed = image + size + (g < SET ? 2 * g : 2 * (g - SET) + 1) * n;
+        for (size_t m = 0; m < l; m++) {
+            image[g * l + m] = next() & 1;
+            if (image[g * l + m])
+                packed[m / 8] |= (uint8_t)(128 >> m % 8);
+        }
+    }
+    return image;
+}
+
+/* Images and packed forms, from the ones to the others. */
+static void add_pack(const char *name)
+{
+    size_t size = AXP_IMAGE_SIZE(blocks);
+    struct row *row = add_row(name, size, AXP_PACKED_SIZE(blocks), library_pack, c_pack);
+    for (int i = 0; i < input_count; i++) {
+        uint8_t *image = packed_image();
+        row->inputs[i] = (struct input){0, image, image, image + size, unchanged};
+    }
+}
+
+static void add_unpack(const char *name)
+{
+    size_t size = AXP_IMAGE_SIZE(blocks);
+    struct row *row = add_row(name, AXP_PACKED_SIZE(blocks), size, library_unpack, c_unpack);
+    for (int i = 0; i < input_count; i++) {
+        uint8_t *image = packed_image();
+        row->inputs[i] = (struct input){0, image + size, image, image, unchanged};
+    }
+}
+
+/* Compared and not timed: packed forms with one padding bit, of each track as often, which leave the output as it came. */
+static void compare_padding(const char *name)
+{
+    size_t size = AXP_IMAGE_SIZE(blocks), n = (size_t)blocks + 2;
+    struct row *row = add_row(name, AXP_PACKED_SIZE(blocks), 0, library_unpack, c_unpack);
+    for (int i = 0; i < input_count; i++) {
+        uint8_t *image = packed_image();
+        image[size + (size_t)(i % AXP_TRACKS) * n + n - 1] |= 1;
+        row->inputs[i] = (struct input){0, image + size, image, image, {AXP_PADDING, 0, 0, 0, AXP_NO_EXTRA, AXP_NO_EXTRA}};
+    }
+    compare(row);
+    free_row();
 }
 
 #ifdef WITH_ISAL
@@ -533,6 +608,9 @@ static void all(uint32_t n)
     add_noise("trace two unknown tracks", axp_trace, plain_trace, one_and_one, 0);
     add_noise("trace two unknown tracks, the last", axp_trace, plain_trace, last_choice, 0);
     add_two_errors("trace to 7, errors at the very end", axp_trace, plain_trace);
+    add_pack("pack");
+    add_unpack("unpack");
+    compare_padding("unpack to 8");
 #ifdef WITH_ISAL
     add_isal("(ISA-L, 14 + 4, four lost)");
 #endif
@@ -545,7 +623,8 @@ static void all(uint32_t n)
             measure(&rows[i], is_short ? 1 : RUNS / PASSES);
     for (int i = 0; i < row_count; i++)
         print_row(&rows[i], rows[0].runners[0].best);
-    free_rows();
+    while (row_count > 0)
+        free_row();
     free_records();
 }
 

@@ -2,7 +2,7 @@
 use code::Answer;
 use code::Extra;
 ghost use mathlib.Core.Path.{_≡_};
-ghost use Rattle.code.specs.Contracts.{Encoded, WasRead, Repaired, Traced};
+ghost use Rattle.code.specs.Contracts.{Encoded, WasRead, Repaired, Traced, WasPacked, WasUnpacked};
 ghost use Rattle.code.specs.Answers.{extra-of, result-of};
 ghost use Rattle.code.proofs.Extras.{Numbered, ExtrasNumbered};
 ghost use Rattle.axp_c.specs.Result.{c-extra, c-result};
@@ -79,4 +79,20 @@ pub extern "C" fn axp_trace(blocks: u32, flags: u32, image: &[u8], out: &mut [u8
     ensures { λ r. ⌜ Traced blocks flags (now (image .entry)) (now (out .entry)) (c-result r) (now (out .exit)) ⌝ }
 {
     for_c(repair::trace(blocks, flags, image, out))
+}
+
+// Packing.
+#[no_mangle]
+pub extern "C" fn axp_pack(blocks: u32, image: &[u8], out: &mut [u8]) -> AxpResult
+    ensures { λ r. ⌜ WasPacked blocks (now (image .entry)) (now (out .entry)) (c-result r) (now (out .exit)) ⌝ }
+{
+    for_c(packed::pack(blocks, image, out))
+}
+
+// Unpacking.
+#[no_mangle]
+pub extern "C" fn axp_unpack(blocks: u32, packed: &[u8], out: &mut [u8]) -> AxpResult
+    ensures { λ r. ⌜ WasUnpacked blocks (now (packed .entry)) (now (out .entry)) (c-result r) (now (out .exit)) ⌝ }
+{
+    for_c(packed::unpack(blocks, packed, out))
 }

@@ -7,7 +7,8 @@ use native.Mathlib.Omega.{arith}
 use Rattle.code.specs.Record.{TrackSet, A, B, Shape, data-tracks, track-length}
 use Rattle.code.specs.Image.{track-number}
 use Rattle.syndrome.specs.Syndrome.{row-of}
-use Rattle.codec.specs.Steps.{row, RowCopied, ChecksPut}
+use Rattle.track.specs.Track.{row}
+use Rattle.codec.specs.Steps.{RowCopied, ChecksPut}
 
 -- Four rows are copied, one after the other.
 module _ (sh : Shape) (syn o p q r n : List ℕ)

@@ -14,7 +14,8 @@ use Rattle.code.proofs.Digits.{xor-bits}
 use Rattle.track.proofs.Cells.{every, Written, written-more}
 use Rattle.syndrome.specs.Syndrome.{row-of}
 use Rattle.syndrome.specs.Steps.{Rows}
-use Rattle.codec.specs.Steps.{row, DiagonalsClosed, VerticalsClosed}
+use Rattle.track.specs.Track.{row}
+use Rattle.codec.specs.Steps.{DiagonalsClosed, VerticalsClosed}
 
 -- ## Diagonals
 

@@ -8,7 +8,7 @@ use borrow.Author.Tests.{lt-ltb, le-ltb}
 use Rattle.code.specs.Record.{TrackSet, A, B, Shape, data-tracks, track-length}
 use Rattle.code.specs.Image.{track-number, all-tracks}
 use Rattle.code.specs.Payload.{payload-index}
-use Rattle.syndrome.proofs.Table.{row-end}
+use Rattle.track.proofs.Rows.{row-end}
 use Rattle.codec.specs.Steps.{data-number, DataNumber}
 
 -- The column that goes along track c + 1 of a set.

@@ -11,10 +11,11 @@ use Rattle.code.specs.Record.{Shape, track-length}
 use Rattle.code.specs.Image.{image-size}
 use Rattle.code.proofs.Digits.{digits-same, digits-digit}
 use Rattle.track.specs.Track.{Unpacked}
+use Rattle.track.proofs.Rows.{part, part-length, part-row, new-length, new-here, new-there}
 use Rattle.syndrome.specs.Steps.{cells-of}
 use Rattle.codec.specs.Steps.{data-number, DataNumber, Filled, Filling}
 use Rattle.codec.proofs.Columns.{later-number}
-use Rattle.codec.proofs.Rows.{part, part-length, part-row, number-room, new-length, new-here, new-there}
+use Rattle.codec.proofs.Rows.{number-room}
 
 -- A track of 0 has no byte of a column yet.
 pub filled-none : (l w p : ℕ) (payload : List ℕ) (f : ℕ → ℕ) → ((m : ℕ) → m < l → f m ≡ 0) → Filled l 0 w p payload f

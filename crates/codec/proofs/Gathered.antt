@@ -12,9 +12,10 @@ use Rattle.code.specs.Payload.{digits}
 use Rattle.code.specs.Record.{Shape, track-length}
 use Rattle.code.specs.Image.{image-size}
 use Rattle.code.proofs.Digits.{digits-same}
+use Rattle.track.proofs.Rows.{part, part-row}
 use Rattle.syndrome.specs.Steps.{cells-of}
 use Rattle.codec.specs.Steps.{DataNumber, ColumnRead, Reading}
-use Rattle.codec.proofs.Rows.{part, part-row, number-room}
+use Rattle.codec.proofs.Rows.{number-room}
 
 -- At first no byte is read.
 pub column-none : (w p : ℕ) (f : ℕ → ℕ) (before : List ℕ) → ColumnRead 0 w p f before before

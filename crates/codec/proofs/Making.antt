@@ -15,7 +15,8 @@ use Rattle.code.proofs.Digits.{digits-same}
 use Rattle.code.proofs.Places.{Place, place}
 use Rattle.track.proofs.Cells.{every}
 use Rattle.syndrome.specs.Syndrome.{row-of, Holds, Image}
-use Rattle.codec.specs.Steps.{row, Filled, Filling, DiagonalsClosed, VerticalsClosed, ChecksPut, GoodRecord}
+use Rattle.track.specs.Track.{row}
+use Rattle.codec.specs.Steps.{Filled, Filling, DiagonalsClosed, VerticalsClosed, ChecksPut, GoodRecord}
 use Rattle.codec.proofs.Columns.{column, column-lt, column-index, column-number, first-unnumbered, last-unnumbered}
 
 -- What holds of track 0, of the data tracks and of the vertical track holds of all tracks.

@@ -11,14 +11,9 @@ use Rattle.code.specs.Payload.{digits, payload-size, Carries}
 use Rattle.code.specs.Reach.{pick}
 use Rattle.code.specs.Sizes.{shape, Small}
 use Rattle.code.specs.declared.Sizes.{Sizes}
+use Rattle.track.specs.Track.{row}
 use Rattle.syndrome.specs.Syndrome.{row-of}
 use Rattle.syndrome.specs.Steps.{Rows}
-
--- ## Rows
-
--- Row r of a list, in rows of l.
-abbrev pub row : ℕ → List ℕ → ℕ → ℕ → ℕ
-row l xs r m = getD xs (r * l + m) 0
 
 -- ## Data tracks and columns: column p of a payload is byte p of each block of w bytes
 

@@ -22,8 +22,8 @@ use Rattle.code.proofs.Patterns.{but-for}
 use Rattle.code.proofs.Places.{Place, place, number-lt}
 use Rattle.code.proofs.Sums.{sum-same}
 use Rattle.track.specs.Track.{Copied, differing}
-use Rattle.syndrome.proofs.Table.{row-end}
-use Rattle.syndrome.proofs.Parts.{part-at, put-before, put-in, put-after}
+use Rattle.track.proofs.Rows.{row-end}
+use Rattle.track.proofs.Parts.{part-at, put-before, put-in, put-after}
 use Rattle.repair.specs.Steps.{HasTrack, changed-at, OnlyMarked, TrackBack}
 
 -- ## Track numbers

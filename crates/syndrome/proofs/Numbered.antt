@@ -9,7 +9,7 @@ use Rattle.code.specs.declared.Sizes.{Sizes}
 use Rattle.code.proofs.Places.{number-lt}
 use Rattle.syndrome.specs.Syndrome.{set-of, row-of}
 use Rattle.syndrome.specs.Steps.{IsTrack, TrackNumber}
-use Rattle.syndrome.proofs.Table.{row-end}
+use Rattle.track.proofs.Rows.{row-end}
 
 -- Every number but 0 is B's.
 pub set-b : (s : ℕ) → s ≢ 0 → set-of s ≡ B

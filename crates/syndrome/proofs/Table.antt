@@ -11,10 +11,6 @@ use lib.ListN.{length, getD, List·getD-eq-default}
 use Rattle.code.specs.Record.{back}
 use Rattle.syndrome.specs.Steps.{Rows, RowAdded}
 
--- A row ends within n rows.
-pub row-end : (l row n : ℕ) → row < n → row * l + l ≤ n * l
-row-end l row n h = omega (arith, mul-le-mul-right l h, suc-mul row l)
-
 -- A cell of a row is within the rows.
 pub row-in : (l row m : ℕ) (syn : List ℕ) → Rows l syn → row < 4 → m < l → row * l + m < length syn
 row-in l row m syn r h k = omega (arith, digits-lt h k, r .size)

@@ -16,7 +16,7 @@ use Rattle.track.specs.Track.{Zeros}
 use Rattle.syndrome.specs.Syndrome.{set-of, Kept, Tested}
 use Rattle.syndrome.specs.Steps.{TrackNumber, TrackTail, TailZero}
 use Rattle.syndrome.proofs.Table.{by-rows}
-use Rattle.syndrome.proofs.Parts.{part-at}
+use Rattle.track.proofs.Parts.{part-at}
 
 -- The tail of a track, as a part of the image.
 abbrev pub tail-of : Sizes → ℕ → List ℕ → List ℕ

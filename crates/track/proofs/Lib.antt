@@ -1,1 +1,4 @@
 pub mod Cells
+pub mod Parts
+pub mod Rows
+pub mod Packing

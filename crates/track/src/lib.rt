@@ -15,6 +15,12 @@ ghost use Rattle.track.specs.Track.{
   Zeros,
   differing,
   Unpacked,
+  Below,
+  Joined,
+  Split,
+  Workspace,
+  PackedRun,
+  UnpackedRun,
 };
 
 // Adds a track, modulo 2, to an accumulator, its first cell at `off`.
@@ -136,6 +142,8 @@ pub fn count_differing(a: &[u8], b: &[u8]) -> usize
     count + count_few(a, b, i, n) as usize
 }
 
+// ---- Packing a byte by itself: eight cells, the first most significant
+
 // The number whose bits are a, b, c and d, the most significant first. One product gathers them.
 fn nibble(a: u8, b: u8, c: u8, d: u8) -> u8
     requires { ⌜ a < 2 ⌝ }
@@ -192,4 +200,71 @@ pub fn unpack(track: &mut [u8], at: usize, byte: u8)
     ensures { λ _. ⌜ Unpacked (now (track .entry)) at byte (now (track .exit)) ⌝ }
 {
     put(track, at, spread(byte));
+}
+
+// ---- Packing a run of bytes, side by side: loops that the compiler turns to vectors
+
+// Joins numbers two by two: number i is number 2i of the source times `weight`, and its number 2i + 1 added. Past its end the source
+// counts as 0.
+fn join(out: &mut [u8], source: &[u8], weight: u8)
+    requires { ⌜ 2 * length (now out) ≤ length (now source) + 1 ⌝ }
+    requires { ⌜ length (now source) ≤ 2 * length (now out) ⌝ }
+    requires { ⌜ weight * weight ≤ 256 ⌝ }
+    requires { ⌜ Below weight (now source) ⌝ }
+    ensures { λ _. ⌜ Joined weight (now (source .entry)) (now (out .entry)) (now (out .exit)) ⌝ }
+{
+    let full = source.len() / 2;
+    let mut i = 0;
+    while i < full {
+        out[i] = source[2 * i] * weight + source[2 * i + 1];
+        i += 1;
+    }
+    if full < out.len() {
+        out[full] = source[2 * full] * weight;
+    }
+}
+
+// Packs a run of cells: two to a pair, four to a quad, eight to a byte. Past their end they count as 0.
+pub fn pack_run(out: &mut [u8], cells: &[u8], quads: &mut [u8], pairs: &mut [u8])
+    requires { ⌜ 8 * length (now out) ≤ length (now cells) + 1 ⌝ }
+    requires { ⌜ length (now cells) ≤ 8 * length (now out) ⌝ }
+    requires { ⌜ Workspace (length (now out)) (now quads) (now pairs) ⌝ }
+    requires { ⌜ Bits (now cells) ⌝ }
+    ensures { λ _. ⌜ PackedRun (now (cells .entry)) (now (out .entry)) (now (out .exit)) ⌝ }
+    ensures { λ _. ⌜ Workspace (length (now (out .entry))) (now (quads .exit)) (now (pairs .exit)) ⌝ }
+{
+    join(pairs, cells, 2);
+    join(quads, pairs, 4);
+    join(out, quads, 16);
+}
+
+// Splits each number in two: number 2i is number i of the source by `weight`, and number 2i + 1 what is left of it.
+fn split(out: &mut [u8], source: &[u8], weight: u8)
+    requires { ⌜ length (now out) ≤ 2 * length (now source) ⌝ }
+    requires { ⌜ 0 < weight ⌝ }
+    ensures { λ _. ⌜ Split weight (now (source .entry)) (now (out .entry)) (now (out .exit)) ⌝ }
+{
+    let full = out.len() / 2;
+    let mut i = 0;
+    while i < full {
+        let x = source[i];
+        out[2 * i] = x / weight;
+        out[2 * i + 1] = x % weight;
+        i += 1;
+    }
+    if 2 * full < out.len() {
+        out[2 * full] = source[full] / weight;
+    }
+}
+
+// Unpacks a run of bytes, the other way round. Bits past the end of the cells are dropped.
+pub fn unpack_run(out: &mut [u8], bytes: &[u8], quads: &mut [u8], pairs: &mut [u8])
+    requires { ⌜ length (now out) ≤ 8 * length (now bytes) ⌝ }
+    requires { ⌜ Workspace (length (now bytes)) (now quads) (now pairs) ⌝ }
+    ensures { λ _. ⌜ UnpackedRun (now (bytes .entry)) (now (out .entry)) (now (out .exit)) ⌝ }
+    ensures { λ _. ⌜ Workspace (length (now (bytes .entry))) (now (quads .exit)) (now (pairs .exit)) ⌝ }
+{
+    split(quads, bytes, 16);
+    split(pairs, quads, 4);
+    split(out, pairs, 2);
 }

@@ -1,23 +1,28 @@
 //! The comparison of the archive with document 01's examples and with the second decoder, in classes of inputs: each
-//! takes its generator, the number of rounds and the tally.
+//! takes its generator, the number of rounds and the tally. The last three classes are those of packing and unpacking.
 
 use crate::damage::{damage, Random};
 use crate::ffi::{Answer, Call};
-use crate::second::{base, code, expected, number, Shape};
+use crate::second::{base, code, expected, number, Rules, Shape};
+
+/// The answers that there are: 0 and the numbers.
+pub const ANSWERS: usize = 9;
 
 /// The calls in the tally's order, and the answers that each can give.
-pub const CALLS: [(&str, &[usize]); 4] = [
+pub const CALLS: [(&str, &[usize]); 6] = [
     ("encode", &[0, 1, 2, 3]),
     ("read", &[0, 1, 2, 3, 4, 7]),
     ("repair", &[0, 1, 2, 3, 4, 5, 6, 7]),
     ("trace", &[0, 1, 2, 3, 4, 5, 6, 7]),
+    ("pack", &[0, 1, 2, 3, 4]),
+    ("unpack", &[0, 1, 2, 3, 8]),
 ];
 
 /// A class of inputs.
 pub type Class = fn(&mut Random, u64, &mut Tally);
 
 /// The classes, by the name that their generator has too.
-pub const CLASSES: [(&str, Class); 8] = [
+pub const CLASSES: [(&str, Class); 11] = [
     ("examples", examples),
     ("every_block_count", every_block_count),
     ("damaged_records", damaged_records),
@@ -26,6 +31,9 @@ pub const CLASSES: [(&str, Class); 8] = [
     ("all_flag_words", all_flag_words),
     ("lengths_and_cells", lengths_and_cells),
     ("too_many_is_too_many", too_many_is_too_many),
+    ("packed_and_back", packed_and_back),
+    ("padding", padding),
+    ("packed_lengths", packed_lengths),
 ];
 
 /// The compared calls: calls of the archive of which the answer and every byte of the output were compared.
@@ -34,12 +42,12 @@ pub struct Tally {
     pub class: &'static str,
     pub seed: u64,
     /// By call and answer.
-    pub counts: [[u64; 8]; 4],
+    pub counts: [[u64; ANSWERS]; CALLS.len()],
 }
 
 impl Tally {
     pub fn new(class: &'static str, seed: u64) -> Tally {
-        Tally { class, seed, counts: [[0; 8]; 4] }
+        Tally { class, seed, counts: [[0; ANSWERS]; CALLS.len()] }
     }
 
     pub fn total(&self) -> u64 {
@@ -70,6 +78,8 @@ impl Tally {
             Call::Read => 1,
             Call::Repair(_) => 2,
             Call::Trace(_) => 3,
+            Call::Pack => 4,
+            Call::Unpack => 5,
         };
         self.counts[row][answer.answer as usize] += 1;
         out.truncate(room);
@@ -129,6 +139,72 @@ fn some_flags(random: &mut Random, shape: Shape, tracks: u32) -> u32 {
         12..=14 => some_tracks(random, shape, 4),
         _ => tracks | 1 << (18 + random.below(14)),
     }
+}
+
+/// The block count of the lengths, and the one that is asked for, which is near to it or not.
+fn some_counts(random: &mut Random) -> (u32, u32) {
+    let near = match random.below(80) {
+        0 => 256,
+        1 => 257,
+        2..=5 => 0,
+        _ => 1 + random.below(12),
+    } as u32;
+    let blocks = match random.below(24) {
+        0 => u32::MAX,
+        1 => near + (1 << (8 + random.below(24))),
+        2 => near + 1,
+        3 => near.wrapping_sub(1),
+        _ => near,
+    };
+    (near, blocks)
+}
+
+/// Up to two cells of any value above 1.
+fn bad_cells(random: &mut Random, image: &mut [u8]) {
+    for _ in 0..random.below(6).saturating_sub(3) {
+        image[random.below(image.len())] = 2 + random.below(254) as u8;
+    }
+}
+
+/// An input one byte shorter, one longer, much shorter, or as it was.
+fn some_length(random: &mut Random, input: &mut Vec<u8>) {
+    match random.below(16) {
+        0 => drop(input.pop()),
+        1 => input.push(0),
+        2 => input.truncate(random.below(input.len() + 1)),
+        _ => {}
+    }
+}
+
+/// An output's length: one byte less than the result's, much less, just that, or more.
+fn some_room(random: &mut Random, result: usize) -> usize {
+    match random.below(16) {
+        0 => result.saturating_sub(1),
+        1 => random.below(result + 1),
+        2..=7 => result,
+        _ => result + random.below(20),
+    }
+}
+
+/// Random bits, a record, or a record with up to five damaged tracks.
+fn some_image(random: &mut Random, rules: &Rules) -> Vec<u8> {
+    if random.below(2) == 0 {
+        return random.bytes(rules.shape.size()).iter().map(|x| x & 1).collect();
+    }
+    let (_, mut image) = random.record(rules);
+    let tracks = some_tracks(random, rules.shape, 5);
+    damage(random, rules.shape, &mut image, tracks);
+    image
+}
+
+/// A random packed form whose padding bits are 1 at these head places, 0 to 17, and 0 elsewhere.
+fn some_packed(random: &mut Random, shape: Shape, places: u32) -> Vec<u8> {
+    let mut packed = random.bytes(shape.packed_size());
+    for (place, track) in packed.chunks_mut(shape.packed_size() / 18).enumerate() {
+        let last = track.last_mut().unwrap();
+        *last = *last & 254 | (places >> place & 1) as u8;
+    }
+    packed
 }
 
 /// Document 01's examples.
@@ -245,20 +321,7 @@ pub fn all_flag_words(random: &mut Random, _: u64, tally: &mut Tally) {
 /// Block counts, lengths, cell values and flags that are right or not, in every mixture.
 pub fn lengths_and_cells(random: &mut Random, rounds: u64, tally: &mut Tally) {
     for _ in 0..rounds {
-        // The lengths are those of the near count.
-        let near = match random.below(80) {
-            0 => 256,
-            1 => 257,
-            2..=5 => 0,
-            _ => 1 + random.below(12),
-        } as u32;
-        let blocks = match random.below(24) {
-            0 => u32::MAX,
-            1 => near + (1 << (8 + random.below(24))),
-            2 => near + 1,
-            3 => near.wrapping_sub(1),
-            _ => near,
-        };
+        let (near, blocks) = some_counts(random);
         let rules = base(near);
         let (payload, image) = random.record(rules);
         let tracks = some_tracks(random, rules.shape, 2);
@@ -276,23 +339,10 @@ pub fn lengths_and_cells(random: &mut Random, rounds: u64, tally: &mut Tally) {
                 if random.below(2) == 0 {
                     damage(random, rules.shape, &mut input, tracks);
                 }
-                // Up to two cells of any value above 1.
-                for _ in 0..random.below(6).saturating_sub(3) {
-                    input[random.below(image.len())] = 2 + random.below(254) as u8;
-                }
+                bad_cells(random, &mut input);
             }
-            match random.below(16) {
-                0 => drop(input.pop()),
-                1 => input.push(0),
-                2 => input.truncate(random.below(input.len() + 1)),
-                _ => {}
-            }
-            let room = match random.below(16) {
-                0 => result.saturating_sub(1),
-                1 => random.below(result + 1),
-                2..=7 => result,
-                _ => result + random.below(20),
-            };
+            some_length(random, &mut input);
+            let room = some_room(random, result);
             tally.compare(random, call, blocks, &input, room);
         }
     }
@@ -312,6 +362,72 @@ pub fn too_many_is_too_many(random: &mut Random, rounds: u64, tally: &mut Tally)
                 let (answer, _) = tally.compare(random, call, blocks, &image, image.len());
                 assert_eq!(answer.answer, if too_many { 6 } else { 0 }, "{call:?}, blocks {blocks}");
             }
+        }
+    }
+}
+
+/// Images of every kind packed, and unpacked again; packed forms unpacked, and packed again. Each block count up to 12,
+/// and the others in one round of 16.
+pub fn packed_and_back(random: &mut Random, rounds: u64, tally: &mut Tally) {
+    for _ in 0..rounds {
+        let most = if random.below(16) == 0 { 256 } else { 12 };
+        let blocks = 1 + random.below(most) as u32;
+        let rules = base(blocks);
+        let image = some_image(random, rules);
+        let packed = some_packed(random, rules.shape, 0);
+        for (there, back, input, result) in [
+            (Call::Pack, Call::Unpack, image, rules.shape.packed_size()),
+            (Call::Unpack, Call::Pack, packed, rules.shape.size()),
+        ] {
+            let room = result + random.below(20);
+            let (_, mut out) = tally.compare(random, there, blocks, &input, room);
+            out.truncate(result);
+            let room = input.len() + random.below(20);
+            let (answer, out) = tally.compare(random, back, blocks, &out, room);
+            assert!(answer == number(0, 0) && out[..input.len()] == input, "{there:?} and back, blocks {blocks}");
+        }
+    }
+}
+
+/// Packed forms with one padding bit that is 1, at each head place, and with several.
+pub fn padding(random: &mut Random, rounds: u64, tally: &mut Tally) {
+    for _ in 0..rounds / 6 {
+        let most = if random.below(16) == 0 { 256 } else { 12 };
+        let blocks = 1 + random.below(most) as u32;
+        let shape = Shape::base(blocks);
+        let several = random.next() as u32 % (1 << 18);
+        for places in (0..18).map(|place| 1 << place).chain([several, (1 << 18) - 1]) {
+            let packed = some_packed(random, shape, places);
+            let room = shape.size() + random.below(20);
+            let (answer, _) = tally.compare(random, Call::Unpack, blocks, &packed, room);
+            assert_eq!(answer, number(if places == 0 { 0 } else { 8 }, 0), "blocks {blocks}, head places {places:#x}");
+        }
+    }
+}
+
+/// Block counts, lengths, cell values and padding bits that are right or not, in every mixture.
+pub fn packed_lengths(random: &mut Random, rounds: u64, tally: &mut Tally) {
+    for _ in 0..rounds {
+        let (near, mut blocks) = some_counts(random);
+        if random.below(48) == 0 {
+            blocks = random.next() as u32;
+        }
+        let rules = base(near);
+        let mut image = some_image(random, rules);
+        bad_cells(random, &mut image);
+        let places = match random.below(6) {
+            0 => random.next() as u32,
+            1 | 2 => 1 << random.below(18),
+            _ => 0,
+        };
+        let packed = some_packed(random, rules.shape, places);
+        for (call, mut input, result) in [
+            (Call::Pack, image, rules.shape.packed_size()),
+            (Call::Unpack, packed, rules.shape.size()),
+        ] {
+            some_length(random, &mut input);
+            let room = if random.below(32) == 0 { 0 } else { some_room(random, result) };
+            tally.compare(random, call, blocks, &input, room);
         }
     }
 }

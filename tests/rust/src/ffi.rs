@@ -1,4 +1,4 @@
-//! The archive's four calls, as C programs see them.
+//! The archive's six calls, as C programs see them.
 
 /// `axp_result` of include/axp.h.
 #[repr(C)]
@@ -20,6 +20,8 @@ extern "C" {
     fn axp_read(blocks: u32, image: *const u8, image_len: usize, out: *mut u8, out_len: usize) -> Answer;
     fn axp_repair(blocks: u32, flags: u32, image: *const u8, image_len: usize, out: *mut u8, out_len: usize) -> Answer;
     fn axp_trace(blocks: u32, flags: u32, image: *const u8, image_len: usize, out: *mut u8, out_len: usize) -> Answer;
+    fn axp_pack(blocks: u32, image: *const u8, image_len: usize, out: *mut u8, out_len: usize) -> Answer;
+    fn axp_unpack(blocks: u32, packed: *const u8, packed_len: usize, out: *mut u8, out_len: usize) -> Answer;
 }
 
 /// A call, with its flags where it takes some.
@@ -29,6 +31,8 @@ pub enum Call {
     Read,
     Repair(u32),
     Trace(u32),
+    Pack,
+    Unpack,
 }
 
 impl Call {
@@ -42,6 +46,8 @@ impl Call {
                 Call::Read => axp_read(blocks, from, from_len, to, to_len),
                 Call::Repair(flags) => axp_repair(blocks, flags, from, from_len, to, to_len),
                 Call::Trace(flags) => axp_trace(blocks, flags, from, from_len, to, to_len),
+                Call::Pack => axp_pack(blocks, from, from_len, to, to_len),
+                Call::Unpack => axp_unpack(blocks, from, from_len, to, to_len),
             }
         }
     }

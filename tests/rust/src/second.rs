@@ -1,6 +1,7 @@
 //! The second decoder, from document 01's rules and in another way than the library: all rules are written out as
 //! equations over cell indices, for any shape of record, and unknown cells are found by peeling (an equation with one
 //! unknown cell gives it) and, where that stalls, by elimination, which also tells whether there are two solutions.
+//! Packing is document 02's note 1, bit after bit.
 
 use crate::ffi::{Answer, Call, NO_EXTRA};
 use std::sync::OnceLock;
@@ -58,6 +59,11 @@ impl Shape {
         (self.t1 + self.t2) * (self.positions / 8)
     }
 
+    /// A packed track takes n + 2 bytes.
+    pub fn packed_size(&self) -> usize {
+        self.all_tracks() * (self.positions / 8 + 2)
+    }
+
     pub fn track_number(&self, set: usize, t: usize) -> usize {
         set * self.tracks(0) + t
     }
@@ -80,6 +86,20 @@ impl Shape {
                 for t in 1..=self.data_tracks(set) {
                     cells.extend((0..8).map(|k| self.index(set, t, 8 * block + k)));
                 }
+            }
+        }
+        cells
+    }
+
+    /// The cells of the packed form's bits, in order: byte after byte, the most significant bit first. The tracks come
+    /// in head order, A0, B0, A1, B1, to A8, B8; a track's last bit is padding and no cell's. Packing keeps 7 and 7.
+    fn packed_cells(&self) -> Vec<Option<usize>> {
+        assert_eq!((self.t1, self.t2), (7, 7));
+        let mut cells = Vec::new();
+        for t in 0..9 {
+            for set in 0..2 {
+                cells.extend((0..self.length()).map(|m| Some(self.index(set, t, m))));
+                cells.push(None);
             }
         }
         cells
@@ -407,6 +427,30 @@ pub fn payload(shape: Shape, image: &[u8]) -> Vec<u8> {
     shape.data_cells().chunks(8).map(|byte| byte.iter().fold(0, |v, &c| v << 1 | image[c])).collect()
 }
 
+/// The packed form of an image.
+pub fn pack(shape: Shape, image: &[u8]) -> Vec<u8> {
+    let mut packed = vec![0u8; shape.packed_size()];
+    for (i, cell) in shape.packed_cells().into_iter().enumerate() {
+        let bit = cell.map_or(0, |c| image[c]);
+        packed[i / 8] |= bit << (7 - i % 8);
+    }
+    packed
+}
+
+/// The image of a packed form; None where a padding bit is 1.
+pub fn unpack(shape: Shape, packed: &[u8]) -> Option<Vec<u8>> {
+    let mut image = vec![0u8; shape.size()];
+    for (i, cell) in shape.packed_cells().into_iter().enumerate() {
+        let bit = packed[i / 8] >> (7 - i % 8) & 1;
+        match cell {
+            Some(c) => image[c] = bit,
+            None if bit == 1 => return None,
+            None => {}
+        }
+    }
+    Some(image)
+}
+
 /// The changed mask and the number of changed cells.
 pub fn changed(shape: Shape, image: &[u8], out: &[u8]) -> (u32, u32) {
     let mut mask = 0;
@@ -425,7 +469,7 @@ pub fn number(answer: u32, detail: u32) -> Answer {
     Answer { answer, detail, mask: 0, cells: 0, extra_a: NO_EXTRA, extra_b: NO_EXTRA }
 }
 
-/// What document 01 says of a call on an output of these bytes: the answer and every byte that it leaves there.
+/// What documents 01 and 02 say of a call on an output of these bytes: the answer and every byte that it leaves there.
 pub fn expected(call: Call, blocks: u32, input: &[u8], before: &[u8]) -> (Answer, Vec<u8>) {
     let refused = |answer, detail| (number(answer, detail), before.to_vec());
     if blocks == 0 || blocks > 256 {
@@ -436,6 +480,8 @@ pub fn expected(call: Call, blocks: u32, input: &[u8], before: &[u8]) -> (Answer
         Call::Encode => (shape.payload_size(), shape.size()),
         Call::Read => (shape.size(), shape.payload_size()),
         Call::Repair(_) | Call::Trace(_) => (shape.size(), shape.size()),
+        Call::Pack => (shape.size(), shape.packed_size()),
+        Call::Unpack => (shape.packed_size(), shape.size()),
     };
     if input.len() != input_len {
         return refused(2, 0);
@@ -443,14 +489,20 @@ pub fn expected(call: Call, blocks: u32, input: &[u8], before: &[u8]) -> (Answer
     if before.len() < result_len {
         return refused(3, 0);
     }
-    let rules = base(blocks);
     let result = |bytes: &[u8]| (number(0, 0), [bytes, &before[result_len..]].concat());
     if call == Call::Encode {
-        return result(&encode(rules, input));
+        return result(&encode(base(blocks), input));
+    }
+    if call == Call::Unpack {
+        return unpack(shape, input).map_or_else(|| refused(8, 0), |image| result(&image));
     }
     if let Some(i) = input.iter().position(|&x| x > 1) {
         return refused(4, i as u32);
     }
+    if call == Call::Pack {
+        return result(&pack(shape, input));
+    }
+    let rules = base(blocks);
     let (flags, extras) = match call {
         Call::Repair(flags) => (flags, false),
         Call::Trace(flags) => (flags, true),

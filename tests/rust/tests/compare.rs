@@ -47,3 +47,18 @@ fn lengths_and_cells() {
 fn too_many_is_too_many() {
     compare("too_many_is_too_many");
 }
+
+#[test]
+fn packed_and_back() {
+    compare("packed_and_back");
+}
+
+#[test]
+fn padding() {
+    compare("padding");
+}
+
+#[test]
+fn packed_lengths() {
+    compare("packed_lengths");
+}

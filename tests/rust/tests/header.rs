@@ -58,7 +58,7 @@ fn between<'a>(text: &'a str, from: &str, to: &str) -> &'a str {
 fn calls() {
     let header = folded(&file("include/axp.h"));
     let wanted = from_source(&file("crates/axp_c/src/lib.rt"));
-    assert_eq!(wanted.len(), 4);
+    assert_eq!(wanted.len(), 6);
     for call in &wanted {
         assert!(header.contains(call.as_str()), "include/axp.h does not declare: {call}");
     }
@@ -92,11 +92,13 @@ fn constants() {
     let source = file("crates/axp_c/src/lib.rt");
     let none = between(&source, "pub const NO_EXTRA: u32 = ", ";");
     assert!(header.contains(&format!("#define AXP_NO_EXTRA {none}u")));
+    assert!(header.contains("#define AXP_PACKED_SIZE(n) (AXP_TRACKS * ((size_t)(n) + 2))\n"));
     // The sizes for 256 blocks.
     assert!(header.contains(&format!("#define AXP_MAX_IMAGE_SIZE {}\n", 18 * (8 * 256 + 15))));
     assert!(header.contains(&format!("#define AXP_MAX_PAYLOAD_SIZE {}\n", 14 * 256)));
-    // The numbers are document 01's, 0 to 7 in order.
+    assert!(header.contains(&format!("#define AXP_MAX_PACKED_SIZE {}\n", 18 * (256 + 2))));
+    // The numbers are document 01's, 0 to 7 in order, and 8 of document 02.
     let list = folded(between(&header, "enum axp_answer {", "};"));
     let values: Vec<u32> = list.split(',').map(|e| e.split('=').nth(1).unwrap().trim().parse().unwrap()).collect();
-    assert_eq!(values, (0..8).collect::<Vec<u32>>());
+    assert_eq!(values, (0..9).collect::<Vec<u32>>());
 }

@@ -1,8 +1,9 @@
 //! The second decoder against the rules themselves, for other shapes than document 01's: unequal sets, no blocks, open
-//! tails, and unknown cells that are no whole tracks.
+//! tails, and unknown cells that are no whole tracks. Its packing against note 1 of document 02, worked out by hand.
 
 use axp_tests::damage::{rounds, Random};
-use axp_tests::second::{code, encode, payload, Closing, Rules, Shape};
+use axp_tests::ffi::Call;
+use axp_tests::second::{code, encode, expected, number, pack, payload, unpack, Closing, Rules, Shape};
 
 const SIZES: [(usize, usize); 5] = [(1, 1), (1, 7), (7, 3), (3, 2), (7, 7)];
 const CLOSINGS: [Closing; 2] = [Closing::Closed, Closing::Open];
@@ -205,4 +206,134 @@ fn no_record() {
     let mut image = vec![0; rules.shape.size()];
     image[rules.shape.index(1, 8, 0)] = 1;
     assert!(rules.peel(&rules.flagged(15), &image).is_none());
+}
+
+/// Bytes that are 0 but for these pairs of index and value.
+fn bytes(size: usize, some: &[(usize, u8)]) -> Vec<u8> {
+    let mut bytes = vec![0u8; size];
+    some.iter().for_each(|&(i, value)| bytes[i] = value);
+    bytes
+}
+
+#[test]
+fn packed_cells() {
+    // One block: a track has 23 cells in the image, so that B begins at 207, and 3 packed bytes.
+    for (cell, byte, value) in [
+        (0, 0, 128),    // A0, its first cells
+        (1, 0, 64),
+        (7, 0, 1),
+        (8, 1, 128),
+        (15, 1, 1),
+        (16, 2, 128),
+        (22, 2, 2),     // A0, its last cell
+        (207, 3, 128),  // B0
+        (229, 5, 2),
+        (23, 6, 128),   // A1
+        (45, 8, 2),
+        (230, 9, 128),  // B1
+        (311, 28, 8),   // B4, position 12
+        (184, 48, 128), // A8
+        (206, 50, 2),
+        (391, 51, 128), // B8
+        (413, 53, 2),
+    ] {
+        let (image, packed) = (bytes(414, &[(cell, 1)]), bytes(54, &[(byte, value)]));
+        assert_eq!(pack(Shape::base(1), &image), packed, "cell {cell}");
+        assert_eq!(unpack(Shape::base(1), &packed), Some(image), "cell {cell}");
+    }
+    // Two blocks, 31 cells and 4 bytes: B0, B8. 256 blocks, 2063 cells and 258 bytes: B0, A1, and B8's last cell.
+    for (blocks, cell, byte, value) in [
+        (2, 279, 4, 128),
+        (2, 557, 71, 2),
+        (256, 18_567, 258, 128),
+        (256, 2063, 516, 128),
+        (256, 37_133, 4643, 2),
+    ] {
+        let shape = Shape::base(blocks);
+        let (image, packed) = (bytes(shape.size(), &[(cell, 1)]), bytes(shape.packed_size(), &[(byte, value)]));
+        assert!(pack(shape, &image) == packed, "blocks {blocks}, cell {cell}");
+        assert!(unpack(shape, &packed) == Some(image), "blocks {blocks}, cell {cell}");
+    }
+}
+
+#[test]
+fn packed_images() {
+    let shape = Shape::base(1);
+    // All ones: every byte is 255 but the last of each track, 254.
+    let ones = [255, 255, 254].repeat(18);
+    assert_eq!(pack(shape, &[1; 414]), ones);
+    assert_eq!(unpack(shape, &ones), Some(vec![1; 414]));
+    // The tracks A0, B0, A1 and B8, cell after cell.
+    let mut image = vec![0u8; 414];
+    for (from, cells) in [
+        (0, b"10110010011100010100110"),
+        (207, b"00000001100000000000001"),
+        (23, b"11110000101010101100110"),
+        (391, b"01111110000110001110011"),
+    ] {
+        (0..23).for_each(|m| image[from + m] = cells[m] - b'0');
+    }
+    let mut packed = vec![178, 113, 76, 1, 128, 2, 240, 170, 204];
+    packed.extend([0; 42]);
+    packed.extend([126, 24, 230]);
+    assert_eq!(pack(shape, &image), packed);
+    assert_eq!(unpack(shape, &packed), Some(image));
+    // Document 01's record of payload 128: A(1,0); B(14,0), B(16,0); A(0,1); A(0,8), A(1,8); B(14,8), B(16,8).
+    let mut payload = [0; 14];
+    payload[0] = 128;
+    let record = encode(&Rules::new(shape), &payload);
+    let packed = bytes(54, &[(0, 64), (4, 2), (5, 128), (6, 128), (48, 192), (52, 2), (53, 128)]);
+    assert_eq!(pack(shape, &record), packed);
+    assert_eq!(unpack(shape, &packed), Some(record));
+}
+
+#[test]
+fn padding_bits() {
+    // The last bits of the eighteen tracks, and no others.
+    let shape = Shape::base(1);
+    for byte in 0..54 {
+        for value in [128, 64, 32, 16, 8, 4, 2, 1] {
+            let accepted = unpack(shape, &bytes(54, &[(byte, value)])).is_some();
+            assert_eq!(accepted, value != 1 || byte % 3 != 2, "byte {byte}, value {value}");
+        }
+    }
+    assert!(unpack(shape, &[255; 54]).is_none());
+}
+
+#[test]
+fn numbers_of_packing() {
+    // One block: 414 cells and 54 bytes. The first that applies is given, and the output stays.
+    let refused = |call: Call, blocks: u32, input: &[u8], room: usize, wanted: (u32, u32)| {
+        let before = vec![9; room];
+        let answer = number(wanted.0, wanted.1);
+        assert_eq!(expected(call, blocks, input, &before), (answer, before), "{call:?}, {blocks}, output of {room}");
+    };
+    let image = bytes(414, &[(40, 2), (300, 255)]);
+    let packed = bytes(54, &[(53, 1)]);
+    for blocks in [0, 257, u32::MAX] {
+        refused(Call::Pack, blocks, &image[1..], 53, (1, 0));
+        refused(Call::Unpack, blocks, &packed[1..], 413, (1, 0));
+    }
+    refused(Call::Pack, 1, &image[..413], 53, (2, 0));
+    refused(Call::Pack, 1, &[2; 415], 53, (2, 0));
+    refused(Call::Pack, 1, &packed, 54, (2, 0));
+    refused(Call::Pack, 1, &image, 53, (3, 0));
+    refused(Call::Pack, 1, &image, 54, (4, 40));
+    refused(Call::Pack, 1, &image, 55, (4, 40));
+    refused(Call::Unpack, 1, &packed[1..], 413, (2, 0));
+    refused(Call::Unpack, 1, &[1; 55], 413, (2, 0));
+    refused(Call::Unpack, 1, &image, 414, (2, 0));
+    refused(Call::Unpack, 1, &packed, 413, (3, 0));
+    refused(Call::Unpack, 1, &packed, 414, (8, 0));
+    refused(Call::Unpack, 1, &packed, 415, (8, 0));
+    // With 0 the result fills the first bytes, and later bytes stay.
+    let mut after = bytes(56, &[(54, 9), (55, 9)]);
+    assert_eq!(expected(Call::Pack, 1, &[0; 414], &[9; 56]), (number(0, 0), after));
+    after = bytes(415, &[(414, 9)]);
+    assert_eq!(expected(Call::Unpack, 1, &[0; 54], &[9; 415]), (number(0, 0), after));
+    // Counts of 256: 37,134 cells and 4,644 bytes.
+    let (answer, after) = expected(Call::Pack, 256, &[0; 37_134], &[9; 4644]);
+    assert!(answer == number(0, 0) && after == [0; 4644]);
+    let (answer, after) = expected(Call::Unpack, 256, &[0; 4644], &[9; 37_134]);
+    assert!(answer == number(0, 0) && after == [0; 37_134]);
 }

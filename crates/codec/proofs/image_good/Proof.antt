@@ -1,7 +1,7 @@
 -- `image_good` meets its contract: the syndromes are put into the front of an array.
 use borrow.Author.Needs.{needs}
 use mathlib.Core.Path.{sym}
-use Rattle.codec.proofs.Rows.{front}
+use Rattle.track.proofs.Rows.{front}
 use Rattle.codec.proofs.image_good.Statement.{statement}
 use Rattle.codec.proofs.image_good.Tie as tie
 

@@ -1,7 +1,7 @@
 -- `write_record` meets its contract: the data tracks, their syndromes, the check tracks.
 use borrow.Author.Needs.{needs}
 use mathlib.Core.Path.{sym}
-use Rattle.codec.proofs.Rows.{front}
+use Rattle.track.proofs.Rows.{front}
 use Rattle.codec.proofs.Making.{filled-image, good-record}
 use Rattle.codec.proofs.write_record.Statement.{statement}
 use Rattle.codec.proofs.write_record.Tie as tie

@@ -6,7 +6,8 @@ use denote.Ref.{now}
 use borrow.Author.Needs.{needs}
 use Rattle.code.specs.Record.{track-length}
 use Rattle.code.specs.Sizes.{shape}
-use Rattle.syndrome.proofs.Parts.{part-at, part-stretch}
+use Rattle.track.proofs.Parts.{part-at}
+use Rattle.syndrome.proofs.Parts.{part-stretch}
 use Rattle.syndrome.proofs.Gathering.{beyond, as-track}
 use Rattle.syndrome.proofs.add_set_track.Statement.{statement}
 use Rattle.syndrome.proofs.add_set_track.Tie as tie

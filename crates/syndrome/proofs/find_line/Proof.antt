@@ -7,7 +7,7 @@ use borrow.Author.Needs.{needs}
 use Rattle.code.specs.Record.{track-length}
 use Rattle.code.specs.Image.{all-tracks}
 use Rattle.code.specs.Sizes.{shape}
-use Rattle.syndrome.proofs.Table.{row-end}
+use Rattle.track.proofs.Rows.{row-end}
 use Rattle.syndrome.proofs.find_line.Statement.{statement}
 use Rattle.syndrome.proofs.find_line.Tie as tie
 

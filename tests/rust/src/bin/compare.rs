@@ -2,7 +2,7 @@
 //! AXP_ROUNDS=84000 AXP_SEED=7 cargo run --release --offline
 //! It fails at the first difference, and where a call was never compared with an answer that it can give.
 
-use axp_tests::compare::{Tally, CALLS, CLASSES};
+use axp_tests::compare::{Tally, ANSWERS, CALLS, CLASSES};
 use axp_tests::damage::{rounds, seed, Random};
 use std::time::Instant;
 
@@ -17,11 +17,11 @@ fn main() {
         class(&mut Random::named(seed, name), rounds, &mut tally);
         println!("{name:21}{:9} calls{:9.1} s", tally.total() - calls, time.elapsed().as_secs_f64());
     }
-    println!("\n{:8}{}", "answer", (0..8).map(|n| format!("{n:9}")).collect::<String>());
+    println!("\n{:8}{}", "answer", (0..ANSWERS).map(|n| format!("{n:9}")).collect::<String>());
     let mut missing = Vec::new();
     for ((call, answers), counts) in CALLS.iter().zip(&tally.counts) {
         let cell = |n: usize| if answers.contains(&n) { format!("{:9}", counts[n]) } else { format!("{:>9}", "-") };
-        println!("{call:8}{}", (0..8).map(cell).collect::<String>());
+        println!("{call:8}{}", (0..ANSWERS).map(cell).collect::<String>());
         missing.extend(answers.iter().filter(|&&n| counts[n] == 0).map(|n| format!("{call} {n}")));
     }
     println!("\n{} compared calls, {:.1} s", tally.total(), begin.elapsed().as_secs_f64());

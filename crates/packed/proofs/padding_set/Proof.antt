@@ -1,0 +1,88 @@
+-- `padding_set`: the loop's invariant is that the padding bits of the first p places are 0.
+use mathlib.Core.Path.{_≡_}
+use mathlib.Core.Logic.{_≢_}
+use Prim.Native.Nat.{ℕ, _+_, _*_, _%_, _≤_, _-_, _<_}
+use native.Mathlib.Omega.{arith}
+use borrow.Author.Count.{below-more}
+use borrow.Author.Needs.{needs}
+use lib.Arith.{digits-lt}
+use lib.ListN.{length, getD}
+use Rattle.packed.proofs.padding_set.Statement.{statement}
+use Rattle.packed.proofs.padding_set.Tie as tie
+
+abbrev Inv-loop : tie.InvT-loop
+Inv-loop packed n w p₀ p = (p ≤ 18) × ((q : ℕ) → q < p → getD packed (q * w + (n + 1)) 0 % 2 ≢ 1)
+
+abbrev μ-loop : tie.MeasureT-loop
+μ-loop packed n w p₀ p = 18 - p
+
+-- The packed form has the byte.
+has-byte : (c : tie.In-loop Inv-loop μ-loop) → let a = c .before .before .args in
+    c .before .loop .p * (a .n + 2) + (a .n + 1) < length (a .packed .now)
+has-byte c =
+    let s = c .before .before in
+    let last : s .args .n + 1 < s .args .n + 2 = omega arith in
+    omega (arith, digits-lt (c .loop-test .taken) last, s .pre .size)
+
+add-w : tie.Need-add-w Inv-loop μ-loop
+add-w c = search needs
+
+loop-holds : tie.Need-loop-holds Inv-loop μ-loop
+loop-holds c = search needs
+
+mul-if1 : tie.Need-mul-if1 Inv-loop μ-loop
+mul-if1 c = omega (arith, has-byte c, c .before .before .pre .few, c .before .before .pre .size)
+
+add-if1 : tie.Need-add-if1 Inv-loop μ-loop
+add-if1 c = search needs
+
+add-if1-2 : tie.Need-add-if1-2 Inv-loop μ-loop
+add-if1-2 c = omega (arith, has-byte c, c .before .before .pre .few, c .before .before .pre .size)
+
+shared-slice-read-if1 : tie.Need-shared-slice-read-if1 Inv-loop μ-loop
+shared-slice-read-if1 c = omega (arith, has-byte (c .before))
+
+returns : tie.Need-returns Inv-loop μ-loop
+returns c =
+    let i = c .before .before in
+    record {
+      some = λ e. record { place = i .before .loop .p; inside = i .loop-test .taken; bit = c .if1 .taken };
+      none = λ e. let z : _≡_ {A = ℕ} 0 1 = cc in absurd (omega arith);
+    }
+
+add-p : tie.Need-add-p Inv-loop μ-loop
+add-p c = search needs
+
+loop-less : tie.Need-loop-less Inv-loop μ-loop
+loop-less c = search needs
+
+loop-again : tie.Need-loop-again Inv-loop μ-loop
+loop-again c =
+    let l = c .before .before .before .loop in
+    (search needs, below-more _ _ (l .inv .1) (c .if1 .left))
+
+returns-2 : tie.Need-returns-2 Inv-loop μ-loop
+returns-2 c =
+    let l = c .before .loop in
+    record {
+      some = λ e. let z : _≡_ {A = ℕ} 0 1 = cc in absurd (omega arith);
+      none = λ e s. l .inv .1 (s .place) (omega (arith, s .inside)) (s .bit);
+    }
+
+pub padding-set-spec : {M : Type 1} → statement M
+padding-set-spec =
+    tie.close
+    (tie.spec
+    Inv-loop
+    μ-loop
+    add-w
+    loop-holds
+    mul-if1
+    add-if1
+    add-if1-2
+    shared-slice-read-if1
+    returns
+    add-p
+    loop-less
+    loop-again
+    returns-2)
