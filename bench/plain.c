@@ -6,9 +6,6 @@
 /* Of a set: its data tracks, and all its tracks. Then the lag, all tracks of a record, and the syndromes of the longest. */
 enum { DATA = 7, TRACKS = DATA + 2, LAG = 2 * DATA + 1, ALL = 2 * TRACKS, ROOM = 4 * (8 * 256 + LAG) };
 
-/* The bytes of the longest track, packed. Before it is packed there are two quads and four pairs to a byte. */
-enum { PACKED = 256 + 2, QUADS = 2 * PACKED, PAIRS = 4 * PACKED };
-
 /* Past every track. */
 enum { NONE = 16 };
 
@@ -71,47 +68,34 @@ static size_t count_differing(const uint8_t *a, const uint8_t *b, size_t n)
     return count + count_few(a + i, b + i, n - i);
 }
 
-/* ---- packing: eight cells a byte, the first cell most significant */
-
-/* Joins numbers two by two: the first of two times `weight`, and the second added. Past its end the source counts as 0. */
-static inline void join(uint8_t *restrict out, size_t out_len, const uint8_t *restrict source, size_t source_len, uint8_t weight)
+/* The number whose four bytes are four cells, the least significant first. */
+static inline uint64_t four(const uint8_t *p)
 {
-    size_t full = source_len / 2;
-    for (size_t i = 0; i < full; i++)
-        out[i] = (uint8_t)(source[2 * i] * weight + source[2 * i + 1]);
-    if (full < out_len)
-        out[full] = (uint8_t)(source[2 * full] * weight);
+    return p[0] | (uint64_t)p[1] << 8 | (uint64_t)p[2] << 16 | (uint64_t)p[3] << 24;
 }
 
-/* Packs `l` cells to `n` bytes: two to a pair, four to a quad, eight to a byte. Past their end the cells count as 0. */
-static void pack(uint8_t *restrict out, size_t n, const uint8_t *restrict cells, size_t l, uint8_t *restrict quads,
-                 uint8_t *restrict pairs)
+/* The byte whose bits are eight cells, the most significant first. One product gathers four cells. */
+static inline uint8_t pack(const uint8_t *p)
 {
-    join(pairs, 4 * n, cells, l, 2);
-    join(quads, 2 * n, pairs, 4 * n, 4);
-    join(out, n, quads, 2 * n, 16);
+    return (uint8_t)((four(p) * 0x80402010 + four(p + 4) * 0x8040201) >> 24);
 }
 
-/* Splits each number in two: what it is by `weight`, and what is left of it. */
-static inline void split(uint8_t *restrict out, size_t out_len, const uint8_t *restrict source, uint8_t weight)
+/* The number whose eight bytes are a byte's bits, the most significant first. One product spreads all bits but the last. */
+static inline uint64_t spread(uint8_t byte)
 {
-    size_t full = out_len / 2;
-    for (size_t i = 0; i < full; i++) {
-        uint8_t x = source[i];
-        out[2 * i] = x / weight;
-        out[2 * i + 1] = x % weight;
-    }
-    if (2 * full < out_len)
-        out[2 * full] = source[full] / weight;
+    uint64_t b = byte;
+    return (b * 0x40201008040201 + (b << 63)) >> 7 & 0x101010101010101;
 }
 
-/* Unpacks `n` bytes to `l` cells, the other way round. Bits past the end of the cells are dropped. */
-static void unpack(uint8_t *restrict out, size_t l, const uint8_t *restrict bytes, size_t n, uint8_t *restrict quads,
-                   uint8_t *restrict pairs)
+/* Writes the bytes of `x`, the least significant first: one store where that is the order of bytes in memory. */
+static inline void put(uint8_t *p, uint64_t x)
 {
-    split(quads, 2 * n, bytes, 16);
-    split(pairs, 4 * n, quads, 4);
-    split(out, l, pairs, 2);
+#if defined(__BYTE_ORDER__) && __BYTE_ORDER__ == __ORDER_LITTLE_ENDIAN__
+    memcpy(p, &x, 8);
+#else
+    for (int k = 0; k < 8; k++)
+        p[k] = (uint8_t)(x >> 8 * k);
+#endif
 }
 
 /* ---- syndromes: the rows are the diagonals of A and B, then their verticals */
@@ -440,12 +424,11 @@ static inline size_t data_number(size_t c)
 /* Writes the data tracks, and 0 to all other tracks. */
 static void write_data(uint8_t *restrict out, size_t l, const uint8_t *restrict payload, size_t blocks)
 {
-    uint8_t bytes[256], quads[QUADS], pairs[PAIRS];
     memset(out, 0, ALL * l);
     for (size_t c = 0; c < 2 * DATA; c++) {
+        uint8_t *track = out + data_number(c) * l;
         for (size_t b = 0; b < blocks; b++)
-            bytes[b] = payload[2 * DATA * b + c];
-        unpack(out + data_number(c) * l, 8 * blocks, bytes, blocks, quads, pairs);
+            put(track + 8 * b, spread(payload[2 * DATA * b + c]));
     }
 }
 
@@ -493,11 +476,10 @@ axp_result plain_encode(uint32_t blocks, const uint8_t *restrict payload, size_t
 
 static void read_data(uint8_t *restrict out, size_t l, const uint8_t *restrict image, size_t blocks)
 {
-    uint8_t bytes[256], quads[QUADS], pairs[PAIRS];
     for (size_t c = 0; c < 2 * DATA; c++) {
-        pack(bytes, blocks, image + data_number(c) * l, 8 * blocks, quads, pairs);
+        const uint8_t *track = image + data_number(c) * l;
         for (size_t b = 0; b < blocks; b++)
-            out[2 * DATA * b + c] = bytes[b];
+            out[2 * DATA * b + c] = pack(track + 8 * b);
     }
 }
 
@@ -523,15 +505,34 @@ static inline size_t head_number(size_t p)
     return track_number(p % 2, p / 2);
 }
 
+/* Packs a track: so many full bytes, and the last seven cells with the padding bit. */
+static void pack_track(uint8_t *restrict bytes, const uint8_t *restrict track, size_t full)
+{
+    uint8_t eight[8] = {0};
+    for (size_t j = 0; j < full; j++)
+        bytes[j] = pack(track + 8 * j);
+    memcpy(eight, track + 8 * full, 7);
+    bytes[full] = pack(eight);
+}
+
+/* Unpacks a track. */
+static void unpack_track(uint8_t *restrict track, const uint8_t *restrict bytes, size_t full)
+{
+    uint8_t eight[8];
+    for (size_t j = 0; j < full; j++)
+        put(track + 8 * j, spread(bytes[j]));
+    put(eight, spread(bytes[full]));
+    memcpy(track + 8 * full, eight, 7);
+}
+
 axp_result plain_pack(uint32_t blocks, const uint8_t *restrict image, size_t image_len, uint8_t *restrict out, size_t out_len)
 {
-    uint8_t quads[QUADS], pairs[PAIRS];
     axp_result r = check_image(blocks, image, image_len, out_len, AXP_PACKED_SIZE(blocks));
     if (r.answer)
         return r;
     size_t l = AXP_TRACK_LENGTH(blocks), n = (size_t)blocks + 2;
     for (size_t p = 0; p < ALL; p++)
-        pack(out + p * n, n, image + head_number(p) * l, l, quads, pairs);
+        pack_track(out + p * n, image + head_number(p) * l, n - 1);
     return r;
 }
 
@@ -546,7 +547,6 @@ static bool padding_zero(const uint8_t *packed, size_t n)
 
 axp_result plain_unpack(uint32_t blocks, const uint8_t *restrict packed, size_t packed_len, uint8_t *restrict out, size_t out_len)
 {
-    uint8_t quads[QUADS], pairs[PAIRS];
     axp_result r = check_sizes(blocks, packed_len, AXP_PACKED_SIZE(blocks), out_len, AXP_IMAGE_SIZE(blocks));
     if (r.answer)
         return r;
@@ -554,7 +554,7 @@ axp_result plain_unpack(uint32_t blocks, const uint8_t *restrict packed, size_t 
     if (!padding_zero(packed, n))
         return answer(8, 0);
     for (size_t p = 0; p < ALL; p++)
-        unpack(out + head_number(p) * l, l, packed + p * n, n, quads, pairs);
+        unpack_track(out + head_number(p) * l, packed + p * n, n - 1);
     return r;
 }
 

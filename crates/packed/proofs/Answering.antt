@@ -7,7 +7,7 @@ use lib.ListN.{length, drop}
 use Rattle.code.specs.Record.{base}
 use Rattle.code.specs.Image.{image-size}
 use Rattle.code.specs.Packed.{packed-size, PaddingSet}
-use Rattle.code.specs.Numbers.{Check, padding-check, size-checks, Passed}
+use Rattle.code.specs.Numbers.{Check, room-check, padding-check, input-checks, size-checks, Passed}
 use Rattle.code.specs.Calls.{Result, plain, Refused, pack-checks, Packs, unpack-checks, Unpacks}
 use Rattle.code.specs.Contracts.{WasPacked, WasUnpacked}
 use Rattle.code.proofs.Front.{front-at, front-same, front-stays}
@@ -39,31 +39,47 @@ module _ (n : ℕ) (image before : List ℕ) (r : Result) where
 
 -- ## Unpacking
 
-module _ (n : ℕ) (packed before : List ℕ) (r : Result) where
+module _ (n : ℕ) (packed before : List ℕ) where
+  abbrev inputs : List {1} Check
+  inputs = input-checks n (packed-size n) (length packed)
+
+  abbrev room : Check
+  room = room-check (image-size (base n)) (length before)
+
   abbrev sizes : List {1} Check
   sizes = size-checks n (packed-size n) (length packed) (image-size (base n)) (length before)
 
-  -- 1 to 3.
-  pub not-unpacked : FirstAnswer sizes r → r .answer ≢ 0 → WasUnpacked n packed before r before
-  not-unpacked = refuses-call sizes (padding-check n packed ∷ []) r (Unpacks n packed before) before
+  -- None of 1 to 3.
+  pub sizes-passed : Passed inputs → ¬ room .applies → Passed sizes
+  sizes-passed p c = (p .0, (p .1 .0, (c, tt)))
 
-  module _ (passed : Passed sizes) where
+module _ (n : ℕ) (packed before : List ℕ) (r : Result) where
+  -- 1 and 2.
+  pub not-unpacked : FirstAnswer (inputs n packed before) r → r .answer ≢ 0 → WasUnpacked n packed before r before
+  not-unpacked = refuses-call (inputs n packed before) (room n packed before ∷ padding-check n packed ∷ []) r (Unpacks n packed before) before
+
+  -- 3.
+  pub too-short : Passed (inputs n packed before) → r ≡ plain 3 0 → room n packed before .applies → WasUnpacked n packed before r before
+  too-short passed e a =
+      first-after (inputs n packed before) (room n packed before ∷ padding-check n packed ∷ []) (Refused r before before) (Unpacks n packed before r before) passed (inl (a, record { result = e; output = refl }))
+
+  module _ (passed : Passed (sizes n packed before)) where
     -- 8.
     pub padded-wrong : r ≡ plain 8 0 → PaddingSet n packed → WasUnpacked n packed before r before
-    padded-wrong e set = first-after sizes (padding-check n packed ∷ []) (Refused r before before) (Unpacks n packed before r before) passed (inl (set, record { result = e; output = refl }))
+    padded-wrong e set = first-after (sizes n packed before) (padding-check n packed ∷ []) (Refused r before before) (Unpacks n packed before r before) passed (inl (set, record { result = e; output = refl }))
 
     -- The image.
     pub was-unpacked : ¬ PaddingSet n packed → image-size (base n) ≤ length before → (image : List ℕ) → r ≡ plain 0 0 → TracksUnpacked n 18 packed image →
         WasUnpacked n packed before r (image ++ drop (image-size (base n)) before)
-    was-unpacked clear room image e t =
+    was-unpacked clear fits image e t =
         let after = image ++ drop (image-size (base n)) before in
         let whole = t .sized .whole in
-        first-after sizes (padding-check n packed ∷ []) (Refused r before after) (Unpacks n packed before r after) passed (inr (
+        first-after (sizes n packed before) (padding-check n packed ∷ []) (Refused r before after) (Unpacks n packed before r after) passed (inr (
           clear,
           record {
             result = e;
-            bits = λ i h. rw (front-at (image-size (base n)) before image whole room i h) (all-bits n packed image t i h);
-            form = form-same n _ _ packed (front-same (base n) before image whole room) (all-unpacked n packed image t clear);
-            stays = front-stays (image-size (base n)) before image whole room;
+            bits = λ i h. rw (front-at (image-size (base n)) before image whole fits i h) (all-bits n packed image t i h);
+            form = form-same n _ _ packed (front-same (base n) before image whole fits) (all-unpacked n packed image t clear);
+            stays = front-stays (image-size (base n)) before image whole fits;
           },
         ))

@@ -1,2 +1,3 @@
+pub mod Bytes
 pub mod Tracks
 pub mod Answering

@@ -15,9 +15,9 @@ use Rattle.code.specs.Packed.{head-place, track-bytes, packed-size, padded, Pac
 use Rattle.code.proofs.Digits.{digit, digits-same, digits-digit}
 use Rattle.code.proofs.Packing.{head-lt, padded-in, padded-out}
 use Rattle.code.proofs.Places.{Place, place}
-use Rattle.track.specs.Track.{row, Workspace, PackedRun, UnpackedRun}
+use Rattle.track.specs.Track.{row}
 use Rattle.track.proofs.Rows.{row-end, part, part-length, part-row, part-bits, new-length, new-here, new-there}
-use Rattle.packed.specs.Steps.{head-number, HeadNumber, Sized, TracksPacked, TracksUnpacked}
+use Rattle.packed.specs.Steps.{head-number, HeadNumber, Sized, TrackPacked, TracksPacked, TrackUnpacked, TracksUnpacked}
 
 -- ## Head order
 
@@ -58,18 +58,9 @@ module _ (n : ℕ) where
     pub place-room : p * w + w ≤ length packed
     place-room = omega (arith, row-end w p 18 place-small, sized .form .size)
 
-    -- Their lengths fit each other, and the room for quads and pairs.
-    pub pack-fits : 8 * length (part w packed p) ≤ length (part l image g) + 1
-    pack-fits = omega (arith, part-length l image g track-room, part-length w packed p place-room)
-
-    pub unpack-fits : length (part l image g) ≤ 8 * length (part w packed p)
-    unpack-fits = omega (arith, part-length l image g track-room, part-length w packed p place-room)
-
-    pub room-for : (quads pairs : List ℕ) → Workspace w quads pairs → Workspace (length (part w packed p)) quads pairs
-    room-for quads pairs r = rw (part-length w packed p place-room) r
-
-    pub room-again : (quads pairs : List ℕ) → Workspace (length (part w packed p)) quads pairs → Workspace w quads pairs
-    room-again quads pairs r = rw (part-length w packed p place-room) at r
+    -- A track has one cell less than its bytes have bits.
+    pub track-fits : 8 * length (part w packed p) ≡ length (part l image g) + 1
+    track-fits = omega (arith, part-length l image g track-room, part-length w packed p place-room)
 
     -- Past its end a track counts as 0.
     track-padded : (m : ℕ) → getD (part l image g) m 0 ≡ padded n (row l image g) m
@@ -78,7 +69,7 @@ module _ (n : ℕ) where
         (λ h. List·getD-eq-default (part l image g) 0 {n = m} (omega (arith, part-length l image g track-room)) ∙ sym (padded-out n (row l image g) m (omega arith)))
 
     -- One more is packed.
-    pub packed-more : (ys : List ℕ) → TracksPacked n p image packed → PackedRun (part l image g) (part w packed p) ys →
+    pub packed-more : (ys : List ℕ) → TracksPacked n p image packed → TrackPacked (part l image g) (part w packed p) ys →
         TracksPacked n (p + 1) image (putMid (p * w) (p * w + w - p * w) packed ys)
     packed-more ys t k = record {
       sized = record { form = record { few = sized .form .few; size = new-length w packed p place-room ys (k .size) ∙ sized .form .size }; whole = sized .whole };
@@ -91,7 +82,7 @@ module _ (n : ℕ) where
     -- ## Unpacking
 
     -- One more is unpacked.
-    pub unpacked-more : (ys : List ℕ) → TracksUnpacked n p packed image → UnpackedRun (part w packed p) (part l image g) ys →
+    pub unpacked-more : (ys : List ℕ) → TracksUnpacked n p packed image → TrackUnpacked (part w packed p) (part l image g) ys →
         TracksUnpacked n (p + 1) packed (putMid (g * l) (g * l + l - g * l) image ys)
     unpacked-more ys t u = record {
       sized = record { form = sized .form; whole = new-length l image g track-room ys (u .size) ∙ sized .whole };

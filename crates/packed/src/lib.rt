@@ -1,11 +1,24 @@
 // Packing and unpacking: an image's tracks in head order, eight cells a byte.
 use code::Answer;
 use code::plain_answer;
-ghost use Prim.Native.Nat.{_+_, _<_};
+ghost use mathlib.Core.Path.{_≡_};
+ghost use Prim.Native.Nat.{ℕ, _+_, _*_, _<_, _≤_};
+ghost use lib.ListN.{length, getD};
+ghost use Rattle.code.specs.Payload.{digits};
 ghost use Rattle.code.specs.Contracts.{WasPacked, WasUnpacked};
 ghost use Rattle.code.specs.Answers.{result-of};
-ghost use Rattle.track.specs.Track.{Bits, Workspace};
-ghost use Rattle.packed.specs.Steps.{HeadNumber, PackedSized, Sized, TracksPacked, PaddingTested, TracksUnpacked};
+ghost use Rattle.track.specs.Track.{Bits};
+ghost use Rattle.packed.specs.Steps.{
+  HeadNumber,
+  PackedSized,
+  Sized,
+  TrackPacked,
+  TracksPacked,
+  PaddingTested,
+  LastPut,
+  TrackUnpacked,
+  TracksUnpacked,
+};
 
 // The number of the track at place p of head order.
 fn head_number(p: usize) -> usize
@@ -17,11 +30,38 @@ fn head_number(p: usize) -> usize
 
 // ---- Packing
 
+// The byte of a track's last cells, of which it has seven; a cell that is missing counts as 0.
+fn last_byte(cells: &[u8]) -> u8
+    requires { ⌜ length (now cells) ≤ 8 ⌝ }
+    requires { ⌜ Bits (now cells) ⌝ }
+    ensures { λ r. ⌜ r ≡ digits 8 (λ (k : ℕ). getD (now (cells .entry)) k 0) ⌝ }
+{
+    let mut eight = [0u8; 8];
+    track::copy_into(&mut eight, cells);
+    track::pack(&eight, 0)
+}
+
+// Packs a track, the last seven cells with the padding bit.
+fn pack_track(bytes: &mut [u8], stretch: &[u8])
+    requires { ⌜ 8 * length (now bytes) ≡ length (now stretch) + 1 ⌝ }
+    requires { ⌜ Bits (now stretch) ⌝ }
+    ensures { λ _. ⌜ TrackPacked (now (stretch .entry)) (now (bytes .entry)) (now (bytes .exit)) ⌝ }
+{
+    let full = stretch.len() / 8;
+    let mut j = 0;
+    while j < full {
+        bytes[j] = track::pack(stretch, 8 * j);
+        j += 1;
+    }
+    let start = 8 * full;
+    let end = start + 7;
+    bytes[full] = last_byte(&stretch[start..end]);
+}
+
 // Packs the tracks of an image.
-fn pack_tracks(out: &mut [u8], image: &[u8], n: usize, quads: &mut [u8], pairs: &mut [u8])
+fn pack_image(out: &mut [u8], image: &[u8], n: usize)
     requires { ⌜ Sized n (now image) (now out) ⌝ }
     requires { ⌜ Bits (now image) ⌝ }
-    requires { ⌜ Workspace (n + 2) (now quads) (now pairs) ⌝ }
     ensures { λ _. ⌜ TracksPacked n 18 (now (image .entry)) (now (out .exit)) ⌝ }
 {
     let l = 8 * n + 15;
@@ -32,21 +72,9 @@ fn pack_tracks(out: &mut [u8], image: &[u8], n: usize, quads: &mut [u8], pairs: 
         let to = from + l;
         let start = p * w;
         let end = start + w;
-        track::pack_run(&mut out[start..end], &image[from..to], quads, pairs);
+        pack_track(&mut out[start..end], &image[from..to]);
         p += 1;
     }
-}
-
-// The same, with room for quads and pairs.
-fn pack_image(out: &mut [u8], image: &[u8], n: usize)
-    requires { ⌜ Sized n (now image) (now out) ⌝ }
-    requires { ⌜ Bits (now image) ⌝ }
-    ensures { λ _. ⌜ TracksPacked n 18 (now (image .entry)) (now (out .exit)) ⌝ }
-{
-    let mut quads = [0u8; 516];
-    let mut pairs = [0u8; 1032];
-    let w = n + 2;
-    pack_tracks(out, image, n, &mut quads[0..2 * w], &mut pairs[0..4 * w]);
 }
 
 // Packing: the packed form of an image goes to the start of the output.
@@ -81,10 +109,36 @@ fn padding_set(packed: &[u8], n: usize) -> bool
     false
 }
 
+// Writes the first bits of a byte to a track's last cells, of which it has seven.
+fn put_last(cells: &mut [u8], byte: u8)
+    requires { ⌜ length (now cells) ≤ 8 ⌝ }
+    ensures { λ _. ⌜ LastPut byte (now (cells .entry)) (now (cells .exit)) ⌝ }
+{
+    let n = cells.len();
+    let mut eight = [0u8; 8];
+    track::unpack(&mut eight, 0, byte);
+    track::copy_into(cells, &eight[0..n]);
+}
+
+// Unpacks a track.
+fn unpack_track(stretch: &mut [u8], bytes: &[u8])
+    requires { ⌜ 8 * length (now bytes) ≡ length (now stretch) + 1 ⌝ }
+    ensures { λ _. ⌜ TrackUnpacked (now (bytes .entry)) (now (stretch .entry)) (now (stretch .exit)) ⌝ }
+{
+    let full = stretch.len() / 8;
+    let mut j = 0;
+    while j < full {
+        track::unpack(stretch, 8 * j, bytes[j]);
+        j += 1;
+    }
+    let start = 8 * full;
+    let end = start + 7;
+    put_last(&mut stretch[start..end], bytes[full]);
+}
+
 // Unpacks the tracks of an image.
-fn unpack_tracks(out: &mut [u8], packed: &[u8], n: usize, quads: &mut [u8], pairs: &mut [u8])
+fn unpack_image(out: &mut [u8], packed: &[u8], n: usize)
     requires { ⌜ Sized n (now out) (now packed) ⌝ }
-    requires { ⌜ Workspace (n + 2) (now quads) (now pairs) ⌝ }
     ensures { λ _. ⌜ TracksUnpacked n 18 (now (packed .entry)) (now (out .exit)) ⌝ }
 {
     let l = 8 * n + 15;
@@ -95,20 +149,9 @@ fn unpack_tracks(out: &mut [u8], packed: &[u8], n: usize, quads: &mut [u8], pair
         let to = from + l;
         let start = p * w;
         let end = start + w;
-        track::unpack_run(&mut out[from..to], &packed[start..end], quads, pairs);
+        unpack_track(&mut out[from..to], &packed[start..end]);
         p += 1;
     }
-}
-
-// The same, with room for quads and pairs.
-fn unpack_image(out: &mut [u8], packed: &[u8], n: usize)
-    requires { ⌜ Sized n (now out) (now packed) ⌝ }
-    ensures { λ _. ⌜ TracksUnpacked n 18 (now (packed .entry)) (now (out .exit)) ⌝ }
-{
-    let mut quads = [0u8; 516];
-    let mut pairs = [0u8; 1032];
-    let w = n + 2;
-    unpack_tracks(out, packed, n, &mut quads[0..2 * w], &mut pairs[0..4 * w]);
 }
 
 // Unpacking: the image of a packed form goes to the start of the output.
@@ -117,11 +160,16 @@ pub fn unpack(blocks: u32, packed: &[u8], out: &mut [u8]) -> Answer
 {
     let n = blocks as usize;
     let size = 18 * (8 * n + 15);
-    let first = checks::check_sizes(blocks, packed.len(), 18 * (n + 2), out.len(), size);
+    let first = checks::check_input(blocks, packed.len(), 18 * (n + 2));
     if first.number != 0 {
         return first;
     }
-    if padding_set(packed, n) {
+    let short = out.len() < size;
+    let padding = padding_set(packed, n);
+    if short {
+        return plain_answer(3, 0);
+    }
+    if padding {
         return plain_answer(8, 0);
     }
     unpack_image(&mut out[..size], packed, n);

@@ -1,4 +1,3 @@
 pub mod Cells
 pub mod Parts
 pub mod Rows
-pub mod Packing

@@ -47,43 +47,9 @@ pub record Zeros (xs : List ℕ) (r : Bool) : Type 0 where
 unfoldable pub differing : List ℕ → List ℕ → ℕ
 differing xs ys = sum (length xs) (λ m. differ (getD xs m 0) (getD ys m 0))
 
--- ## Packing
-
 -- The eight cells from `at` on are the byte's bits, the most significant first, and all others stay.
 pub record Unpacked (before : List ℕ) (at byte : ℕ) (after : List ℕ) : Type 0 where
   pub size : length after ≡ length before
   pub cells : (k : ℕ) → k < 8 → getD after (at + k) 0 ≡ byte / 2 ^ (8 - suc k) % 2
   pub early : (i : ℕ) → i < at → getD after i 0 ≡ getD before i 0
   pub later : (i : ℕ) → at + 8 ≤ i → getD after i 0 ≡ getD before i 0
-
--- Every number of a list is below a bound.
-pub record Below (bound : ℕ) (xs : List ℕ) : Type 0 where
-  pub small : (i : ℕ) → getD xs i 0 < bound
-
--- The numbers of a source, joined two by two.
-pub record Joined (weight : ℕ) (source before after : List ℕ) : Type 0 where
-  pub size : length after ≡ length before
-  pub number : (i : ℕ) → i < length before → getD after i 0 ≡ getD source (2 * i) 0 * weight + getD source (2 * i + 1) 0
-
--- The numbers of a source, split in two. Those that are split are bytes.
-pub record Split (weight : ℕ) (source before after : List ℕ) : Type 0 where
-  pub size : length after ≡ length before
-  pub byte : (i : ℕ) → 2 * i < length before → getD source i 0 < 256
-  pub high : (i : ℕ) → 2 * i < length before → getD after (2 * i) 0 ≡ getD source i 0 / weight
-  pub low : (i : ℕ) → 2 * i + 1 < length before → getD after (2 * i + 1) 0 ≡ getD source i 0 % weight
-
--- Room for the quads and the pairs of n bytes.
-pub record Workspace (n : ℕ) (quads pairs : List ℕ) : Type 0 where
-  pub for-quads : length quads ≡ 2 * n
-  pub for-pairs : length pairs ≡ 4 * n
-
--- Byte j is the number of the eight cells from 8j on, the most significant first. Past their end cells count as 0.
-pub record PackedRun (cells before after : List ℕ) : Type 0 where
-  pub size : length after ≡ length before
-  pub byte : (j : ℕ) → j < length before → getD after j 0 ≡ digits 8 (λ k. getD cells (8 * j + k) 0)
-
--- The cells from 8j on are the bits of byte j, the most significant first.
-pub record UnpackedRun (bytes before after : List ℕ) : Type 0 where
-  pub size : length after ≡ length before
-  pub byte : (j : ℕ) → 8 * j < length before → getD bytes j 0 < 256
-  pub cell : (j k : ℕ) → k < 8 → 8 * j + k < length before → getD after (8 * j + k) 0 ≡ getD bytes j 0 / 2 ^ (8 - suc k) % 2

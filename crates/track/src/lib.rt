@@ -15,12 +15,6 @@ ghost use Rattle.track.specs.Track.{
   Zeros,
   differing,
   Unpacked,
-  Below,
-  Joined,
-  Split,
-  Workspace,
-  PackedRun,
-  UnpackedRun,
 };
 
 // Adds a track, modulo 2, to an accumulator, its first cell at `off`.
@@ -142,30 +136,27 @@ pub fn count_differing(a: &[u8], b: &[u8]) -> usize
     count + count_few(a, b, i, n) as usize
 }
 
-// ---- Packing a byte by itself: eight cells, the first most significant
-
-// The number whose bits are a, b, c and d, the most significant first. One product gathers them.
-fn nibble(a: u8, b: u8, c: u8, d: u8) -> u8
+// The number whose four bytes are a, b, c and d, the least significant first. It compiles to one load.
+fn four(a: u8, b: u8, c: u8, d: u8) -> u64
     requires { ⌜ a < 2 ⌝ }
     requires { ⌜ b < 2 ⌝ }
     requires { ⌜ c < 2 ⌝ }
     requires { ⌜ d < 2 ⌝ }
-    ensures { λ r. ⌜ r < 16 ⌝ }
-    ensures { λ r. ⌜ r ≡ 8 * a + 4 * b + 2 * c + d ⌝ }
+    ensures { λ r. ⌜ r ≤ 0x101_0101 ⌝ }
+    ensures { λ r. ⌜ r ≡ a + 0x100 * b + 0x1_0000 * c + 0x100_0000 * d ⌝ }
 {
-    let x = a as u64 + 0x100 * (b as u64) + 0x1_0000 * (c as u64) + 0x100_0000 * (d as u64);
-    (x * 0x804_0201 / 0x100_0000 % 16) as u8
+    a as u64 + 0x100 * (b as u64) + 0x1_0000 * (c as u64) + 0x100_0000 * (d as u64)
 }
 
-// The byte whose bits are the eight cells from `at` on, the most significant first.
+// The byte whose bits are the eight cells from `at` on, the most significant first. One product gathers four cells.
 pub fn pack(track: &[u8], at: usize) -> u8
     requires { ⌜ at + 8 ≤ length (now track) ⌝ }
     requires { ⌜ Bits (now track) ⌝ }
     ensures { λ r. ⌜ r ≡ digits 8 (λ (k : ℕ). getD (now (track .entry)) (at + k) 0) ⌝ }
 {
-    let high = nibble(track[at], track[at + 1], track[at + 2], track[at + 3]);
-    let low = nibble(track[at + 4], track[at + 5], track[at + 6], track[at + 7]);
-    16 * high + low
+    let high = four(track[at], track[at + 1], track[at + 2], track[at + 3]);
+    let low = four(track[at + 4], track[at + 5], track[at + 6], track[at + 7]);
+    ((high * 0x8040_2010 + low * 0x804_0201) / 0x100_0000 % 0x100) as u8
 }
 
 // The number whose eight bytes are the bits of `byte`, the most significant first. One product spreads all bits but the last.
@@ -173,7 +164,7 @@ fn spread(byte: u8) -> u64
     ensures { λ r. ⌜ ((k : ℕ) → k < 8 → r / 256 ^ k % 256 ≡ byte / 2 ^ (8 - suc k) % 2) ⌝ }
 {
     let b = byte as u64;
-    (b * 0x40_2010_0804_0201 / 0x80 & 0x1_0101_0101_0101) + b % 2 * 0x100_0000_0000_0000
+    (b * 0x40_2010_0804_0201 + (b << 63)) / 0x80 & 0x101_0101_0101_0101
 }
 
 // Writes the bytes of `x` to the eight cells from `at` on, the least significant first. By itself it compiles to one store.
@@ -200,71 +191,4 @@ pub fn unpack(track: &mut [u8], at: usize, byte: u8)
     ensures { λ _. ⌜ Unpacked (now (track .entry)) at byte (now (track .exit)) ⌝ }
 {
     put(track, at, spread(byte));
-}
-
-// ---- Packing a run of bytes, side by side: loops that the compiler turns to vectors
-
-// Joins numbers two by two: number i is number 2i of the source times `weight`, and its number 2i + 1 added. Past its end the source
-// counts as 0.
-fn join(out: &mut [u8], source: &[u8], weight: u8)
-    requires { ⌜ 2 * length (now out) ≤ length (now source) + 1 ⌝ }
-    requires { ⌜ length (now source) ≤ 2 * length (now out) ⌝ }
-    requires { ⌜ weight * weight ≤ 256 ⌝ }
-    requires { ⌜ Below weight (now source) ⌝ }
-    ensures { λ _. ⌜ Joined weight (now (source .entry)) (now (out .entry)) (now (out .exit)) ⌝ }
-{
-    let full = source.len() / 2;
-    let mut i = 0;
-    while i < full {
-        out[i] = source[2 * i] * weight + source[2 * i + 1];
-        i += 1;
-    }
-    if full < out.len() {
-        out[full] = source[2 * full] * weight;
-    }
-}
-
-// Packs a run of cells: two to a pair, four to a quad, eight to a byte. Past their end they count as 0.
-pub fn pack_run(out: &mut [u8], cells: &[u8], quads: &mut [u8], pairs: &mut [u8])
-    requires { ⌜ 8 * length (now out) ≤ length (now cells) + 1 ⌝ }
-    requires { ⌜ length (now cells) ≤ 8 * length (now out) ⌝ }
-    requires { ⌜ Workspace (length (now out)) (now quads) (now pairs) ⌝ }
-    requires { ⌜ Bits (now cells) ⌝ }
-    ensures { λ _. ⌜ PackedRun (now (cells .entry)) (now (out .entry)) (now (out .exit)) ⌝ }
-    ensures { λ _. ⌜ Workspace (length (now (out .entry))) (now (quads .exit)) (now (pairs .exit)) ⌝ }
-{
-    join(pairs, cells, 2);
-    join(quads, pairs, 4);
-    join(out, quads, 16);
-}
-
-// Splits each number in two: number 2i is number i of the source by `weight`, and number 2i + 1 what is left of it.
-fn split(out: &mut [u8], source: &[u8], weight: u8)
-    requires { ⌜ length (now out) ≤ 2 * length (now source) ⌝ }
-    requires { ⌜ 0 < weight ⌝ }
-    ensures { λ _. ⌜ Split weight (now (source .entry)) (now (out .entry)) (now (out .exit)) ⌝ }
-{
-    let full = out.len() / 2;
-    let mut i = 0;
-    while i < full {
-        let x = source[i];
-        out[2 * i] = x / weight;
-        out[2 * i + 1] = x % weight;
-        i += 1;
-    }
-    if 2 * full < out.len() {
-        out[2 * full] = source[full] / weight;
-    }
-}
-
-// Unpacks a run of bytes, the other way round. Bits past the end of the cells are dropped.
-pub fn unpack_run(out: &mut [u8], bytes: &[u8], quads: &mut [u8], pairs: &mut [u8])
-    requires { ⌜ length (now out) ≤ 8 * length (now bytes) ⌝ }
-    requires { ⌜ Workspace (length (now bytes)) (now quads) (now pairs) ⌝ }
-    ensures { λ _. ⌜ UnpackedRun (now (bytes .entry)) (now (out .entry)) (now (out .exit)) ⌝ }
-    ensures { λ _. ⌜ Workspace (length (now (bytes .entry))) (now (quads .exit)) (now (pairs .exit)) ⌝ }
-{
-    split(quads, bytes, 16);
-    split(pairs, quads, 4);
-    split(out, pairs, 2);
 }
