@@ -1,5 +1,5 @@
 -- Each image has one packed form, and a packed form is that of one image of bits.
-use mathlib.Core.Path.{_≡_, refl, sym, ap, _∙_}
+use mathlib.Core.Path.{_≡_, sym, ap, _∙_}
 use mathlib.Core.Logic.{by-cases}
 use mathlib.Core.List.{List}
 use Prim.Native.Nat.{ℕ, suc, _+_, _*_, _/_, _%_, _<_, _≤_}
@@ -12,7 +12,7 @@ use lib.ListN.{getD}
 use Rattle.code.specs.Record.{TrackSet, A, B, base, tracks, track-length, Cells, Same}
 use Rattle.code.specs.Image.{all-tracks, image-size, cells}
 use Rattle.code.specs.Payload.{digits}
-use Rattle.code.specs.Packed.{head-place, track-bytes, packed-size, padded, packed-byte, PackedForm, PaddingSet}
+use Rattle.code.specs.Packed.{head-place, track-bytes, packed-size, padded, PackedForm, PaddingSet}
 use Rattle.code.proofs.Digits.{digits-inj, digits-same}
 use Rattle.code.proofs.Places.{cell-lt}
 

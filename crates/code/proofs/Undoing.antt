@@ -1,5 +1,5 @@
 -- Packing and unpacking undo each other (document 02, note 1).
-use mathlib.Core.Path.{_≡_, refl, sym, ap, _∙_}
+use mathlib.Core.Path.{_≡_, sym, ap, _∙_}
 use mathlib.Core.Logic.{by-cases}
 use mathlib.Core.List.{List}
 use Prim.Native.Nat.{ℕ, _<_, _≤_}
@@ -10,7 +10,7 @@ use lib.Seq.{ext-getD, getD-take, length-take-le}
 use Rattle.code.specs.Record.{base, Same}
 use Rattle.code.specs.Image.{image-size, cells}
 use Rattle.code.specs.Packed.{packed-size, PackedForm}
-use Rattle.code.specs.Numbers.{room-check, count-check, first-bad, size-checks, Passed}
+use Rattle.code.specs.Numbers.{room-check, count-check, first-bad, Passed}
 use Rattle.code.specs.Calls.{Result, Refused, pack-checks, Packs, unpack-checks, Unpacks}
 use Rattle.code.specs.Contracts.{WasPacked, WasUnpacked}
 use Rattle.code.specs.Supply.{PackingUndone, UnpackingUndone}

@@ -8,7 +8,7 @@ use Rattle.code.specs.Record.{base}
 use Rattle.code.specs.Image.{image-size}
 use Rattle.code.specs.Packed.{packed-size, PaddingSet}
 use Rattle.code.specs.Numbers.{Check, room-check, padding-check, input-checks, size-checks, Passed}
-use Rattle.code.specs.Calls.{Result, plain, Refused, pack-checks, Packs, unpack-checks, Unpacks}
+use Rattle.code.specs.Calls.{Result, plain, Refused, pack-checks, Packs, Unpacks}
 use Rattle.code.specs.Contracts.{WasPacked, WasUnpacked}
 use Rattle.code.proofs.Front.{front-at, front-same, front-stays}
 use Rattle.code.proofs.Numbers.{first-passed, first-after}

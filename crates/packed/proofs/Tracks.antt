@@ -1,5 +1,5 @@
 -- Tracks that are packed and unpacked one after the other.
-use mathlib.Core.Path.{_≡_, refl, sym, ap, _∙_}
+use mathlib.Core.Path.{_≡_, sym, ap, _∙_}
 use mathlib.Core.Logic.{_≢_, by-cases}
 use mathlib.Core.List.{List}
 use Prim.Native.Nat.{ℕ, suc, _+_, _*_, _-_, _/_, _%_, _^_, _<_, _≤_}
@@ -9,14 +9,14 @@ use native.Mathlib.Omega.{arith}
 use borrow.Rule.Slice.PartMut.{putMid}
 use lib.ListN.{length, getD, List·getD-eq-default}
 use Rattle.code.specs.Record.{TrackSet, A, B, base, tracks, track-length}
-use Rattle.code.specs.Image.{track-number, all-tracks, image-size, cells}
+use Rattle.code.specs.Image.{track-number, image-size, cells}
 use Rattle.code.specs.Payload.{digits}
-use Rattle.code.specs.Packed.{head-place, track-bytes, packed-size, padded, PackedForm, PaddingSet}
+use Rattle.code.specs.Packed.{head-place, track-bytes, padded, PackedForm, PaddingSet}
 use Rattle.code.proofs.Digits.{digit, digits-same, digits-digit}
 use Rattle.code.proofs.Packing.{head-lt, padded-in, padded-out}
 use Rattle.code.proofs.Places.{Place, place}
 use Rattle.track.specs.Track.{row}
-use Rattle.track.proofs.Rows.{row-end, part, part-length, part-row, part-bits, new-length, new-here, new-there}
+use Rattle.track.proofs.Rows.{row-end, part, part-length, part-row, new-length, new-here, new-there}
 use Rattle.packed.specs.Steps.{head-number, HeadNumber, Sized, TrackPacked, TracksPacked, TrackUnpacked, TracksUnpacked}
 
 -- ## Head order

@@ -5,7 +5,6 @@ use mathlib.Core.List.{List}
 use Prim.Native.Nat.{ℕ, suc, _+_, _*_, _-_, _/_, _%_, _^_, _<_, _≤_}
 use lib.ListN.{length, getD}
 use Rattle.code.specs.Record.{back, sum}
-use Rattle.code.specs.Payload.{digits}
 use Rattle.code.specs.Calls.{differ}
 
 -- Row r of a list, in rows of l: track number r of an image of tracks of l cells.

@@ -1,5 +1,4 @@
 -- `put_last`: the first of eight cells.
-use native.Mathlib.Omega.{arith}
 use borrow.Author.Needs.{needs}
 use Rattle.packed.proofs.Bytes.{last-put}
 use Rattle.packed.proofs.put_last.Statement.{statement}
