@@ -93,53 +93,21 @@ static void *allocate(size_t size)
 
 /* ---- calls of one type */
 
-static axp_result library_encode(uint32_t n, uint32_t flags, const uint8_t *payload, size_t len, uint8_t *out, size_t out_len)
-{
-    (void)flags;
-    return axp_encode(n, payload, len, out, out_len);
-}
+#define WITHOUT_FLAGS(name, function) \
+    static axp_result name(uint32_t n, uint32_t flags, const uint8_t *bytes, size_t len, uint8_t *out, size_t out_len) \
+    { \
+        (void)flags; \
+        return function(n, bytes, len, out, out_len); \
+    }
 
-static axp_result library_read(uint32_t n, uint32_t flags, const uint8_t *image, size_t len, uint8_t *out, size_t out_len)
-{
-    (void)flags;
-    return axp_read(n, image, len, out, out_len);
-}
-
-static axp_result library_pack(uint32_t n, uint32_t flags, const uint8_t *image, size_t len, uint8_t *out, size_t out_len)
-{
-    (void)flags;
-    return axp_pack(n, image, len, out, out_len);
-}
-
-static axp_result library_unpack(uint32_t n, uint32_t flags, const uint8_t *packed, size_t len, uint8_t *out, size_t out_len)
-{
-    (void)flags;
-    return axp_unpack(n, packed, len, out, out_len);
-}
-
-static axp_result c_encode(uint32_t n, uint32_t flags, const uint8_t *payload, size_t len, uint8_t *out, size_t out_len)
-{
-    (void)flags;
-    return plain_encode(n, payload, len, out, out_len);
-}
-
-static axp_result c_read(uint32_t n, uint32_t flags, const uint8_t *image, size_t len, uint8_t *out, size_t out_len)
-{
-    (void)flags;
-    return plain_read(n, image, len, out, out_len);
-}
-
-static axp_result c_pack(uint32_t n, uint32_t flags, const uint8_t *image, size_t len, uint8_t *out, size_t out_len)
-{
-    (void)flags;
-    return plain_pack(n, image, len, out, out_len);
-}
-
-static axp_result c_unpack(uint32_t n, uint32_t flags, const uint8_t *packed, size_t len, uint8_t *out, size_t out_len)
-{
-    (void)flags;
-    return plain_unpack(n, packed, len, out, out_len);
-}
+WITHOUT_FLAGS(library_encode, axp_encode)
+WITHOUT_FLAGS(library_read, axp_read)
+WITHOUT_FLAGS(library_pack, axp_pack)
+WITHOUT_FLAGS(library_unpack, axp_unpack)
+WITHOUT_FLAGS(c_encode, plain_encode)
+WITHOUT_FLAGS(c_read, plain_read)
+WITHOUT_FLAGS(c_pack, plain_pack)
+WITHOUT_FLAGS(c_unpack, plain_unpack)
 
 /* The answer 0 with no changed cell. */
 static const axp_result unchanged = {AXP_OK, 0, 0, 0, AXP_NO_EXTRA, AXP_NO_EXTRA};
