@@ -1,15 +1,12 @@
 -- What callers take from the answer of their first checks: a number refuses the call, and with 0 the checks are passed.
 use mathlib.Core.Path.{_≡_, refl, sym, ap, _∙_}
-use mathlib.Core.Logic.{_≢_, inl, inr, by-cases}
+use mathlib.Core.Logic.{_≢_, inl, inr}
 use mathlib.Core.List.{List, [], _∷_, _++_}
-use Prim.Native.Nat.{ℕ, _<_, _≤_}
-use native.Mathlib.Decide.{decLt}
+use Prim.Native.Nat.{ℕ}
 use native.Mathlib.Omega.{arith}
-use lib.ListN.{length, getD}
-use Rattle.code.specs.Numbers.{Check, input-checks, size-checks, image-checks, room-check, cell-check, first-bad, First, Passed}
+use Rattle.code.specs.Numbers.{Check, input-checks, size-checks, image-checks, First, Passed}
 use Rattle.code.specs.Calls.{Result, plain, Refused, Answered}
-use Rattle.code.proofs.Numbers.{first-bad-before, passed-few, passed-exact, first-after, passed-both, Avoids, answer-of}
-use Rattle.track.proofs.Cells.{every}
+use Rattle.code.proofs.Numbers.{first-after, Avoids, answer-of}
 use Rattle.checks.specs.First.{FirstAnswer}
 
 -- ## A number
@@ -54,34 +51,3 @@ size-passes n wanted input size output r = passes (size-checks n wanted input si
 pub image-passes : (n wanted : ℕ) (image : List ℕ) (size output : ℕ) (r : Result) → FirstAnswer (image-checks n wanted image size output) r → r .answer ≡ 0 →
     Passed (image-checks n wanted image size output)
 image-passes n wanted image size output r = passes (image-checks n wanted image size output) r (omega arith)
-
--- The count and the lengths are right.
-pub record SizesRight (n wanted input size output : ℕ) : Type 0 where
-  pub few : n ≤ 256
-  pub exact : input ≡ wanted
-  pub fits : size ≤ output
-
-pub sizes-right : (n wanted input size output : ℕ) → Passed (size-checks n wanted input size output) → SizesRight n wanted input size output
-sizes-right n wanted input size output p =
-    let q = passed-both (input-checks n wanted input) (room-check size output ∷ []) p in
-    record {
-      few = passed-few n wanted input (q .0);
-      exact = passed-exact n wanted input (q .0);
-      fits = by-cases (decLt output size) (λ h. absurd (q .1 .0 h)) (λ h. omega arith);
-    }
-
--- And the cells are bits.
-pub record ImageRight (n wanted : ℕ) (image : List ℕ) (size output : ℕ) : Type 0 where
-  pub sizes : SizesRight n wanted (length image) size output
-  pub bits : (i : ℕ) → getD image i 0 < 2
-
-pub image-right : (n wanted : ℕ) (image : List ℕ) (size output : ℕ) → Passed (image-checks n wanted image size output) → ImageRight n wanted image size output
-image-right n wanted image size output p =
-    let q = passed-both (size-checks n wanted (length image) size output) (cell-check image ∷ []) p in
-    record {
-      sizes = sizes-right n wanted (length image) size output (q .0);
-      bits = no-bad image (q .1 .0);
-    }
-  where
-    no-bad : (xs : List ℕ) → ¬ (first-bad xs < length xs) → (i : ℕ) → getD xs i 0 < 2
-    no-bad xs h = every (λ v. v < 2) xs (omega arith) (λ i k. first-bad-before xs i (omega arith))

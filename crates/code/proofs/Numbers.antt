@@ -69,6 +69,10 @@ pub passed-both : (cs ds : List {1} Check) → Passed (cs ++ ds) → Passed cs �
 passed-both [] ds p = (tt, p)
 passed-both (c ∷ cs) ds p = let q = passed-both cs ds (p .1) in ((p .0, q .0), q .1)
 
+pub passed-append : (cs ds : List {1} Check) → Passed cs → Passed ds → Passed (cs ++ ds)
+passed-append [] ds p q = q
+passed-append (c ∷ cs) ds p q = (p .0, passed-append cs ds (p .1) q)
+
 -- So is the last.
 pub passed-last : (cs : List {1} Check) (c : Check) → Passed (cs ++ (c ∷ [])) → ¬ c .applies
 passed-last cs c p = passed-both cs (c ∷ []) p .1 .0

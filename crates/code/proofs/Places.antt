@@ -1,12 +1,12 @@
 -- Every byte of an image is one cell, and images with the same cells are the same bytes.
-use mathlib.Core.Path.{_≡_, refl, sym, ap, _∙_}
+use mathlib.Core.Path.{_≡_, sym, ap, _∙_}
 use mathlib.Core.List.{List}
-use Prim.Native.Nat.{ℕ, suc, _+_, _*_, _/_, _%_, _-_, _<_, _≤_}
+use Prim.Native.Nat.{ℕ, _+_, _*_, _/_, _%_, _-_, _<_}
 use native.Mathlib.Nat.{div-add-mod', div-lt-iff-lt-mul, mod-lt}
 use native.Mathlib.Decide.{decLt}
 use native.Mathlib.Omega.{arith}
 use lib.Arith.{digits-lt}
-use lib.ListN.{length, getD}
+use lib.ListN.{getD}
 use lib.Seq.{ext-getD}
 use Rattle.code.specs.Record.{TrackSet, A, B, Shape, tracks, track-length, Same}
 use Rattle.code.specs.Image.{track-number, all-tracks, image-size, cells}
@@ -58,6 +58,18 @@ place sh i h = go (decLt g (tracks sh A))
           at = ap (λ (k : ℕ). k * l + i % l) e ∙ div-add-mod' i l;
         }
 
+-- What holds of each cell holds of each byte.
+pub each-cell : (sh : Shape) (P : ℕ → Type 0) → ((s : TrackSet) (t m : ℕ) → t < tracks sh s → m < track-length sh → P (track-number sh s t * track-length sh + m)) →
+    (i : ℕ) → i < image-size sh → P i
+each-cell sh P h i l = go (place sh i l)
+  where
+    go : Place sh i → P i
+    go p = rw (sym (p .at)) (h (p .set) (p .track) (p .position) (p .has-track) (p .has-position))
+
+-- Images with the same cells have the same bytes.
+pub same-image : (sh : Shape) (l₁ l₂ : List ℕ) → Same sh (cells sh l₁) (cells sh l₂) → (i : ℕ) → i < image-size sh → getD l₁ i 0 ≡ getD l₂ i 0
+same-image sh l₁ l₂ e = each-cell sh (λ i. getD l₁ i 0 ≡ getD l₂ i 0) (e .cell)
+
 -- Outputs whose first bytes are the same, and whose later bytes stay, are the same.
 pub same-bytes : (size : ℕ) (before l₁ l₂ : List ℕ) → Stays size before l₁ → Stays size before l₂ →
     ((i : ℕ) → i < size → getD l₁ i 0 ≡ getD l₂ i 0) → l₁ ≡ l₂
@@ -70,7 +82,4 @@ same-bytes size before l₁ l₂ a b e = ext-getD 0 l₁ l₂ (a .lengths ∙ sy
 -- And so are outputs that hold the same cells.
 pub same-output : (sh : Shape) (before l₁ l₂ : List ℕ) → Stays (image-size sh) before l₁ → Stays (image-size sh) before l₂ →
     Same sh (cells sh l₁) (cells sh l₂) → l₁ ≡ l₂
-same-output sh before l₁ l₂ a b e = same-bytes (image-size sh) before l₁ l₂ a b (λ i h. at i (place sh i h))
-  where
-    at : (i : ℕ) → Place sh i → getD l₁ i 0 ≡ getD l₂ i 0
-    at i p = rw (sym (p .at)) (e .cell (p .set) (p .track) (p .position) (p .has-track) (p .has-position))
+same-output sh before l₁ l₂ a b e = same-bytes (image-size sh) before l₁ l₂ a b (same-image sh l₁ l₂ e)

@@ -1,5 +1,5 @@
 -- What encoder and reader do together (point 2), for any shape of n blocks and any checks.
-use mathlib.Core.Path.{_≡_, sym, ap}
+use mathlib.Core.Path.{_≡_, ap}
 use mathlib.Core.Logic.{inl, inr, _≢_}
 use mathlib.Core.List.{List, [], _∷_, _++_}
 use Prim.Native.Nat.{ℕ, _*_, _<_}
@@ -14,16 +14,13 @@ use Rattle.code.specs.Supply.{Point2}
 use Rattle.code.proofs.Linear.{same-sym, good-same}
 use Rattle.code.proofs.Numbers.{first-bad-none, first-append, each-append, Avoids, unrefused, answer-of}
 use Rattle.code.proofs.Payloads.{payload-fixed, same-payload, carries-same, carried-as}
-use Rattle.code.proofs.Places.{Place, place}
+use Rattle.code.proofs.Places.{each-cell}
 
 -- ## Reader
 
 -- A good record has no bad cell.
 no-bad-cell : (sh : Shape) (image : List ℕ) → length image ≡ image-size sh → Good sh (cells sh image) → ¬ cell-check image .applies
-no-bad-cell sh image whole good bad = omega (arith, first-bad-none image (λ k l. at k (place sh k (omega arith))))
-  where
-    at : (k : ℕ) → Place sh k → getD image k 0 < 2
-    at k p = rw (sym (p .at)) (good .bits (p .set) (p .track) (p .position) (p .has-track) (p .has-position))
+no-bad-cell sh image whole good bad = omega (arith, first-bad-none image (λ k l. each-cell sh (λ i. getD image i 0 < 2) (good .bits) k (omega arith)))
 
 module _ (sh : Shape) (n : ℕ) (image before : List ℕ) (r : Result) (after : List ℕ) where
   -- Every good record is read.

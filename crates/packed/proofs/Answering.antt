@@ -11,7 +11,7 @@ use Rattle.code.specs.Numbers.{Check, room-check, padding-check, input-checks, 
 use Rattle.code.specs.Calls.{Result, plain, Refused, pack-checks, Packs, Unpacks}
 use Rattle.code.specs.Contracts.{WasPacked, WasUnpacked}
 use Rattle.code.proofs.Front.{front-at, front-same, front-stays}
-use Rattle.code.proofs.Numbers.{first-passed, first-after}
+use Rattle.code.proofs.Numbers.{first-passed, first-after, passed-append}
 use Rattle.code.proofs.Packing.{form-same, form-as}
 use Rattle.checks.specs.First.{FirstAnswer}
 use Rattle.checks.proofs.Refusing.{refuses-call}
@@ -51,7 +51,7 @@ module _ (n : ℕ) (packed before : List ℕ) where
 
   -- None of 1 to 3.
   pub sizes-passed : Passed inputs → ¬ room .applies → Passed sizes
-  sizes-passed p c = (p .0, (p .1 .0, (c, tt)))
+  sizes-passed p c = passed-append inputs (room ∷ []) p (c, tt)
 
 module _ (n : ℕ) (packed before : List ℕ) (r : Result) where
   -- 1 and 2.

@@ -14,7 +14,7 @@ use Rattle.code.specs.Payload.{digits}
 use Rattle.code.specs.Packed.{head-place, track-bytes, padded, PackedForm, PaddingSet}
 use Rattle.code.proofs.Digits.{digit, digits-same, digits-digit}
 use Rattle.code.proofs.Packing.{head-lt, padded-in, padded-out}
-use Rattle.code.proofs.Places.{Place, place}
+use Rattle.code.proofs.Places.{each-cell}
 use Rattle.track.specs.Track.{row}
 use Rattle.track.proofs.Rows.{row-end, part, part-length, part-row, new-length, new-here, new-there}
 use Rattle.packed.specs.Steps.{head-number, HeadNumber, Sized, TrackPacked, TracksPacked, TrackUnpacked, TracksUnpacked}
@@ -117,10 +117,7 @@ module _ (n : ℕ) where
         rw (← e) (rw (at s a (m / 8) (m % 8) h (omega arith) (omega arith)) (mod-lt _ (omega arith)))
 
     pub all-bits : (i : ℕ) → i < image-size (base n) → getD image i 0 < 2
-    all-bits i h = go (place (base n) i h)
-      where
-        go : Place (base n) i → getD image i 0 < 2
-        go p = rw (sym (p .at)) (bit (p .set) (p .track) (p .position) (p .has-track) (p .has-position))
+    all-bits = each-cell (base n) (λ i. getD image i 0 < 2) bit
 
     pub all-unpacked : ¬ PaddingSet n packed → PackedForm n (cells (base n) image) packed
     all-unpacked clear = record { byte = λ s a j h k. sym (digits-same 8 _ _ (λ i b. each s a j i h k b (decLt (8 * j + i) l)) ∙ digits-digit 8 _ (t .byte (head-place s a) j (head-lt n s a h) k)) }

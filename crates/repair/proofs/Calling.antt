@@ -35,7 +35,8 @@ use Rattle.code.proofs.Linear.{good-same}
 use Rattle.code.proofs.Numbers.{first-after, passed-both}
 use Rattle.solver.specs.Solver.{marked}
 use Rattle.checks.specs.First.{FirstAnswer}
-use Rattle.checks.proofs.Refusing.{refuses-call, passes, ImageRight, image-right}
+use Rattle.code.proofs.Accepted.{ImageRight, image-right}
+use Rattle.checks.proofs.Refusing.{refuses-call, passes}
 use Rattle.repair.specs.Steps.{Marks, Given}
 use Rattle.repair.proofs.Flagging.{SameFlags, marks-same, code-same, agree-same, reach-same}
 

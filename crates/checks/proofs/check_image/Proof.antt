@@ -6,7 +6,8 @@ use denote.Ref.{now}
 use lib.ListN.{length}
 use Rattle.code.specs.Numbers.{size-checks, cell-check, Passed}
 use Rattle.code.specs.Calls.{plain}
-use Rattle.checks.proofs.Refusing.{refuses, next-refuses, next-passes, size-passes, sizes-right}
+use Rattle.code.proofs.Accepted.{sizes-right}
+use Rattle.checks.proofs.Refusing.{refuses, next-refuses, next-passes, size-passes}
 use borrow.Author.Needs.{needs}
 use Rattle.checks.proofs.check_image.Statement.{statement}
 use Rattle.checks.proofs.check_image.Tie as tie

@@ -7,7 +7,8 @@ use lib.Seq.{length-take-le}
 use Rattle.code.specs.Record.{base}
 use Rattle.code.specs.Numbers.{Passed}
 use Rattle.code.specs.Calls.{encode-checks}
-use Rattle.checks.proofs.Refusing.{size-passes, SizesRight, sizes-right}
+use Rattle.code.proofs.Accepted.{SizesRight, sizes-right}
+use Rattle.checks.proofs.Refusing.{size-passes}
 use Rattle.codec.proofs.Answering.{not-encoded, encoded}
 use borrow.Author.Needs.{needs}
 use Rattle.codec.proofs.encode.Statement.{statement}

@@ -7,7 +7,8 @@ use lib.ListN.{length}
 use Rattle.code.specs.Record.{base}
 use Rattle.code.specs.Numbers.{Passed}
 use Rattle.code.specs.Calls.{read-checks}
-use Rattle.checks.proofs.Refusing.{image-passes, ImageRight, image-right}
+use Rattle.code.proofs.Accepted.{ImageRight, image-right}
+use Rattle.checks.proofs.Refusing.{image-passes}
 use Rattle.codec.proofs.Answering.{refused-read, was-read, was-not-read}
 use borrow.Author.Needs.{needs}
 use Rattle.codec.proofs.read.Statement.{statement}

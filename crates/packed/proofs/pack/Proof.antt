@@ -7,7 +7,8 @@ use lib.ListN.{length}
 use lib.Seq.{length-take-le}
 use Rattle.code.specs.Numbers.{Passed}
 use Rattle.code.specs.Calls.{pack-checks}
-use Rattle.checks.proofs.Refusing.{image-passes, ImageRight, image-right}
+use Rattle.code.proofs.Accepted.{ImageRight, image-right}
+use Rattle.checks.proofs.Refusing.{image-passes}
 use Rattle.packed.proofs.Answering.{not-packed, was-packed}
 use Rattle.packed.proofs.pack.Statement.{statement}
 use Rattle.packed.proofs.pack.Tie as tie

@@ -12,7 +12,8 @@ use Rattle.code.specs.Image.{image-size}
 use Rattle.code.specs.Numbers.{input-checks, size-checks, Passed}
 use Rattle.code.specs.Packed.{packed-size}
 use Rattle.code.proofs.Numbers.{passed-few, passed-exact}
-use Rattle.checks.proofs.Refusing.{input-passes, SizesRight, sizes-right}
+use Rattle.code.proofs.Accepted.{SizesRight, sizes-right}
+use Rattle.checks.proofs.Refusing.{input-passes}
 use Rattle.packed.proofs.Answering.{not-unpacked, too-short, sizes-passed, padded-wrong, was-unpacked}
 use Rattle.packed.proofs.unpack.Statement.{statement}
 use Rattle.packed.proofs.unpack.Tie as tie
