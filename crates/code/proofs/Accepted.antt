@@ -1,4 +1,4 @@
--- What passed checks say of an input: the count and the lengths are right, and the cells are bits; and that such an input passes them.
+-- What passed checks say of an input: the count and the lengths are right, and the cells have the values asked for; and that such an input passes them.
 use mathlib.Core.Path.{_≡_}
 use mathlib.Core.Logic.{by-cases}
 use mathlib.Core.List.{List, [], _∷_}
@@ -30,21 +30,22 @@ module _ (n wanted input size output : ℕ) where
   pub sizes-pass : ¬ count-check n .applies → input ≡ wanted → size ≤ output → Passed (size-checks n wanted input size output)
   sizes-pass counted exact fits = (counted, (λ d. d exact, (λ h. omega arith, tt)))
 
--- And the cells are bits.
-pub record ImageRight (n wanted : ℕ) (image : List ℕ) (size output : ℕ) : Type 0 where
+-- And the cells have these values.
+pub record ImageRight (values n wanted : ℕ) (image : List ℕ) (size output : ℕ) : Type 0 where
   pub sizes : SizesRight n wanted (length image) size output
-  pub bits : (i : ℕ) → getD image i 0 < 2
+  pub cells : (i : ℕ) → getD image i 0 < values
 
-module _ (n wanted : ℕ) (image : List ℕ) (size output : ℕ) where
-  pub image-right : Passed (image-checks n wanted image size output) → ImageRight n wanted image size output
-  image-right p =
-      let q = passed-both (size-checks n wanted (length image) size output) (cell-check image ∷ []) p in
+module _ (values n wanted : ℕ) (image : List ℕ) (size output : ℕ) where
+  pub image-right : 0 < values → Passed (image-checks values n wanted image size output) → ImageRight values n wanted image size output
+  image-right some p =
+      let q = passed-both (size-checks n wanted (length image) size output) (cell-check values image ∷ []) p in
       record {
         sizes = sizes-right n wanted (length image) size output (q .0);
-        bits = λ i. by-cases (decLt i (length image))
-            (λ h. first-bad-before image i (by-cases (decLt (first-bad image) (length image)) (λ l. absurd (q .1 .0 l)) (λ l. omega arith)))
-            (λ h. rw (List·getD-eq-default image 0 {n = i} (omega arith)) (omega arith));
+        cells = λ i. by-cases (decLt i (length image))
+            (λ h. first-bad-before values image i (by-cases (decLt (first-bad values image) (length image)) (λ l. absurd (q .1 .0 l)) (λ l. omega arith)))
+            (λ h. rw (List·getD-eq-default image 0 {n = i} (omega arith)) some);
       }
 
-  pub image-pass : Passed (size-checks n wanted (length image) size output) → ((i : ℕ) → i < length image → getD image i 0 < 2) → Passed (image-checks n wanted image size output)
-  image-pass p bits = passed-append (size-checks n wanted (length image) size output) (cell-check image ∷ []) p (λ h. omega (arith, first-bad-none image bits), tt)
+  pub image-pass : Passed (size-checks n wanted (length image) size output) → ((i : ℕ) → i < length image → getD image i 0 < values) →
+      Passed (image-checks values n wanted image size output)
+  image-pass p cells = passed-append (size-checks n wanted (length image) size output) (cell-check values image ∷ []) p (λ h. omega (arith, first-bad-none values image cells), tt)

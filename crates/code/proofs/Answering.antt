@@ -50,8 +50,8 @@ module _ (own : ℕ → Type 0) (seven : List ℕ → Type 0) (size : ℕ) (befo
     (refusal 2 0 (omega arith) (omega arith) b (λ d. refl), (refusal 3 0 (omega arith) (omega arith) c (λ d. refl), tt)),
   )
 
-  pub images : (n wanted : ℕ) (image : List ℕ) (result output : ℕ) → own 1 → own 2 → own 3 → own 4 → Each Refusal (image-checks n wanted image result output)
-  images n wanted image result output a b c d = each-append Refusal (size-checks n wanted (length image) result output) (cell-check image ∷ [])
+  pub images : (values n wanted : ℕ) (image : List ℕ) (result output : ℕ) → own 1 → own 2 → own 3 → own 4 → Each Refusal (image-checks values n wanted image result output)
+  images values n wanted image result output a b c d = each-append Refusal (size-checks n wanted (length image) result output) (cell-check values image ∷ [])
       (sizes n wanted (length image) result output a b c) (refusal 4 _ (omega arith) (omega arith) d (λ e. absurd (e refl)), tt)
 
   -- An answer past the checks: 0 or 7.

@@ -7,6 +7,7 @@ use native.Mathlib.Omega.{arith}
 use lib.ListN.{length, getD, drop, replicate, length-replicate, List·getD-append}
 use Rattle.code.specs.Record.{base, sum}
 use Rattle.code.specs.Flags.{flag-count}
+use Rattle.code.specs.Lost.{read-values}
 use Rattle.code.specs.Reach.{look-up, reach-code, flags-code, none}
 use Rattle.code.specs.Numbers.{Passed, reach-check}
 use Rattle.code.specs.Calls.{Result, changed-in, changed-cells, changed-mask, changed-extra, early-checks}
@@ -42,9 +43,9 @@ right repair = repair-found 2 rest-of-128 (a 0 1 ∷ rest-of-128) result tt tt g
 right trace = trace-found 2 3 rest-of-128 (a 0 1 ∷ rest-of-128) result tt tt tt good-128 tt refl before room
 
 -- Its numbers 1 to 5 do not apply.
-fit : Passed (early-checks (base 1) 1 2 image (length before))
+fit : Passed (early-checks read-values (base 1) 1 2 image (length before))
 unfolding image before flags-code flag-count sum reach-code look-up
-fit = passed-both (early-checks (base 1) 1 2 image (length before)) (reach-check (base 1) (flags-of 2) ∷ []) (passed 2 rest-of-128 before tt tt room) .0
+fit = passed-both (early-checks read-values (base 1) 1 2 image (length before)) (reach-check (base 1) (flags-of 2) ∷ []) (passed read-values (omega arith) 2 rest-of-128 before tt tt room) .0
 
 -- A(0,1) is 0 in the image and in the output as it came, and 1 in the right output.
 in-image : getD image (a 0 1) 0 ≡ 0

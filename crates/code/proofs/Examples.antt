@@ -13,17 +13,21 @@ use Rattle.code.specs.Record.{TrackSet, A, B, base, data-tracks, tracks,
 use Rattle.code.specs.Image.{track-number, cells}
 use Rattle.code.specs.Payload.{digits, payload-index, payload-byte, Carries}
 use Rattle.code.specs.Flags.{TrackFlags, whole, word-flags, flag-count, AgreeOff, Within}
+use Rattle.code.specs.Lost.{bit-values, read-values}
 use Rattle.code.specs.Reach.{look-up, reach-code, flags-code, Extra, none, extra, is, most-in, most, Choice, Allowed, with-extras, InReach}
 use Rattle.code.specs.Numbers.{Check, First, Passed, first-bad}
 use Rattle.code.specs.Calls.{Result, plain, mended, Found, NotFound, changed-in, changed-cells, changed-mask, changed-extra, repair-checks, Refused}
+use Rattle.code.specs.Contracts.{call-flags}
+use Rattle.code.specs.Supply.{AsBefore}
 use Rattle.code.specs.Examples.{ones, good, encode, repair, trace, Holds, Hold, examples, rest-of-128, answer-0, a, b}
-use Rattle.code.proofs.Codes.{closed-within}
+use Rattle.code.proofs.Codes.{code-far, closed-within}
 use Rattle.code.proofs.Digits.{digits-same}
 use Rattle.code.proofs.Patterns.{neither}
 use Rattle.code.proofs.Reached.{count-extras}
 use Rattle.code.proofs.Unique.{unique-tracks}
 use Rattle.code.proofs.Changed.{mended-same, changed-extra-same}
 use Rattle.code.proofs.Linear.{same-sym, good-same, good-blank, blank}
+use Rattle.code.proofs.Lost.{count-widened, bit-known, as-before}
 use Rattle.code.proofs.Numbers.{first-bad-none, first-passed}
 use Rattle.code.proofs.Spots.{spot, spots, length-ones, ones-bit, ones-cells, image-cells, ones-stay}
 use Rattle.code.proofs.Table.{and-left, and-right}
@@ -32,20 +36,20 @@ use Rattle.code.proofs.Tests.{every, every-at, both-sets, both-at, test
 abbrev pub flags-of : ℕ → TrackFlags
 flags-of word = word-flags (base 1) word
 
-abbrev checks-of : ℕ → List ℕ → List ℕ → List {1} Check
-checks-of word image before = repair-checks (base 1) 1 word (flags-of word) image before
+abbrev checks-of : ℕ → ℕ → List ℕ → List ℕ → List {1} Check
+checks-of values word image before = repair-checks values (base 1) 1 word (flags-of word) image before
 
--- The checks are passed.
-pub passed : (flags : ℕ) (ins before : List ℕ) → T (ltb flags (2 ^ 18)) → T (ltb 0 (flags-code (base 1) (flags-of flags))) → 414 ≤ length before →
-    Passed (checks-of flags (ones ins) before)
-passed flags ins before few code h = (
+-- The checks are passed, whatever values beside bits a cell may have.
+pub passed : (values : ℕ) → 2 ≤ values → (flags : ℕ) (ins before : List ℕ) → T (ltb flags (2 ^ 18)) → T (ltb 0 (flags-code (base 1) (flags-of flags))) → 414 ≤ length before →
+    Passed (checks-of values flags (ones ins) before)
+passed values two flags ins before few code h = (
   λ d. ⊎-elim (λ e. omega arith) (λ e. omega arith) d,
   (
     λ d. d (length-ones ins),
     (
       λ l. omega arith,
       (
-        λ l. omega (arith, first-bad-none (ones ins) (λ k l′. ones-bit ins k (omega (arith, length-ones ins)))),
+        λ l. omega (arith, first-bad-none values (ones ins) (λ k l′. omega (arith, two, ones-bit ins k))),
         (
           λ l. omega (arith, ltb→lt flags (2 ^ 18) few),
           (
@@ -57,6 +61,10 @@ passed flags ins before few code h = (
     ),
   ),
 )
+
+-- No cell of an example's image is lost.
+unlost : (ins before : List ℕ) → AsBefore 1 (ones ins) before
+unlost ins before = as-before (ones ins) (λ i. bit-known _ (ones-bit ins i)) 1 before
 
 -- Two records agree off the flags.
 abbrev agree-test : TrackFlags → Cells → Cells → Bool
@@ -99,8 +107,9 @@ found near named named′ ins outs before r h g n i e = record {
 pub repair-found : (flags : ℕ) (ins outs : List ℕ) (r : Result) → T (ltb flags (2 ^ 18)) → T (ltb 0 (flags-code (base 1) (flags-of flags))) →
     Good (base 1) (spots outs) → T (agree-test (flags-of flags) (spots ins) (spots outs)) →
     mended (base 1) (spots ins) (spots outs) (λ s. none) ≡ r → Holds (repair flags ins r outs)
-repair-found flags ins outs r few code g agree e before h = first-passed (checks-of flags (ones ins) before) (Refused r before (output outs before)) _ (passed flags ins before few code h)
-    (inl (found (AgreeOff (base 1) (whole (flags-of flags)) (cells (base 1) (ones ins))) (λ s. none) (λ s. none) ins outs before r h g (tested-agree (flags-of flags) ins outs before agree) (λ s. refl) e))
+repair-found flags ins outs r few code g agree e before h = unlost ins before .repair flags r (output outs before) .1
+    (first-passed (checks-of bit-values flags (ones ins) before) (Refused r before (output outs before)) _ (passed bit-values (omega arith) flags ins before few code h)
+    (inl (found (AgreeOff (base 1) (whole (flags-of flags)) (cells (base 1) (ones ins))) (λ s. none) (λ s. none) ins outs before r h g (tested-agree (flags-of flags) ins outs before agree) (λ s. refl) e)))
 
 -- A choice of one extra track, in A.
 unfoldable pub in-a : ℕ → Choice
@@ -140,12 +149,13 @@ pub trace-found : (flags u : ℕ) (ins outs : List ℕ) (r : Result) → T (ltb 
     T (agree-test (with-extras (flags-of flags) (in-a u)) (spots ins) (spots outs)) →
     mended (base 1) (spots ins) (spots outs) (λ s. changed-extra (base 1) (flags-of flags) (spots ins) (spots outs) s (tracks (base 1) s)) ≡ r →
     Holds (trace flags ins r outs)
-trace-found flags u ins outs r few code allowed g agree e before h = first-passed (checks-of flags (ones ins) before) (Refused r before (output outs before)) _ (passed flags ins before few code h)
+trace-found flags u ins outs r few code allowed g agree e before h = unlost ins before .trace flags r (output outs before) .1
+    (first-passed (checks-of bit-values flags (ones ins) before) (Refused r before (output outs before)) _ (passed bit-values (omega arith) flags ins before few code h)
     (inl (found (InReach (base 1) (flags-code (base 1) (flags-of flags)) (flags-of flags) (cells (base 1) (ones ins))) _ (λ s. changed-extra (base 1) (flags-of flags) (spots ins) (spots outs) s (tracks (base 1) s)) ins outs before r h g
     (record { choice = in-a u; allowed = tested-allowed _ u (flags-of flags) allowed; agree = tested-agree _ ins outs before agree })
     (λ s. changed-extra-same (base 1) (spots ins) _ (spots outs) _ (same-sym (image-cells ins)) (same-sym (ones-cells outs (drop 414 before)))
     (flags-of flags) (flags-of flags) s (λ t l. refl) (tracks (base 1) s) (omega arith))
-    e))
+    e)))
 
 -- A call that finds none: no good record is near.
 not-found : (near : Cells → Type 0) (ins before : List ℕ) → 414 ≤ length before → ((y : Cells) → Good (base 1) y → near y → ⊥) →
@@ -163,9 +173,9 @@ no-flags s t = rw (zero-div (2 ^ track-number (base 1) s t))
 -- Without flags only a good image is repaired.
 repair-none : (ins : List ℕ) (m : ℕ) → T (ltb m 23) → T (eqb (vertical (base 1) (spots ins) A m % 2) 1) → Holds (repair 0 ins (plain 7 0) ins)
 unfolding flags-code flag-count sum reach-code look-up
-repair-none ins m l odd before h =
-    first-passed (checks-of 0 (ones ins) before) (Refused (plain 7 0) before (output ins before)) _ (passed 0 ins before tt tt h)
-    (inr (not-found (AgreeOff (base 1) (whole (flags-of 0)) (cells (base 1) (ones ins))) ins before h nothing))
+repair-none ins m l odd before h = unlost ins before .repair 0 (plain 7 0) (output ins before) .1
+    (first-passed (checks-of bit-values 0 (ones ins) before) (Refused (plain 7 0) before (output ins before)) _ (passed bit-values (omega arith) 0 ins before tt tt h)
+    (inr (not-found (AgreeOff (base 1) (whole (flags-of 0)) (cells (base 1) (ones ins))) ins before h nothing)))
   where
     nothing : (y : Cells) → Good (base 1) y → AgreeOff (base 1) (whole (flags-of 0)) (cells (base 1) (ones ins)) y → ⊥
     nothing y g n = omega (arith, eqb→eq (vertical (base 1) (spots ins) A m % 2) 1 odd, good-same (base 1) y (spots ins) same g .verticals A m (ltb→lt m 23 l))
@@ -243,16 +253,26 @@ tested-carries ins payload before t = record {
     first zero l P p = p
     first (suc n) l P p = absurd (omega arith)
 
--- Flags that are refused, for every image of bits.
-module _ (image before : List ℕ) (l : length image ≡ 414) (bits : first-bad image ≡ 414) (h : 414 ≤ length before) where
-  refused-15 : (rest : Type 0) → First (checks-of 15 image before) (Refused (plain 6 0) before before) rest
-  unfolding flags-code flag-count sum reach-code look-up
+-- Flags that are refused, for every image, lost cells or not.
+four-tracks : flag-count (base 1) (flags-of 15) A ≡ 4
+unfolding flag-count sum
+four-tracks = refl
+
+module _ (image before : List ℕ) (l : length image ≡ 414) (cells-right : first-bad read-values image ≡ 414) (h : 414 ≤ length before) where
+  abbrev checks : ℕ → List {1} Check
+  checks word = repair-checks read-values (base 1) 1 word (call-flags 1 word image) image before
+
+  code-15 : flags-code (base 1) (call-flags 1 15 image) ≡ 0
+  unfolding flags-code
+  code-15 = code-far _ _ (λ few _. omega (arith, four-tracks, count-widened (base 1) (flags-of 15) image A))
+
+  refused-15 : (rest : Type 0) → First (checks 15) (Refused (plain 6 0) before before) rest
   refused-15 rest = inr (
     λ d. ⊎-elim (λ e. omega arith) (λ e. omega arith) d,
-    inr (λ d. d l, inr (λ r. omega arith, inr (λ r. omega arith, inr (λ r. omega arith, inl (refl, record { result = refl; output = refl }))))),
+    inr (λ d. d l, inr (λ r. omega arith, inr (λ r. omega arith, inr (λ r. omega arith, inl (code-15, record { result = refl; output = refl }))))),
   )
 
-  refused-18 : (rest : Type 0) → First (checks-of (2 ^ 18) image before) (Refused (plain 5 0) before before) rest
+  refused-18 : (rest : Type 0) → First (checks (2 ^ 18)) (Refused (plain 5 0) before before) rest
   refused-18 rest = inr (
     λ d. ⊎-elim (λ e. omega arith) (λ e. omega arith) d,
     inr (λ d. d l, inr (λ r. omega arith, inr (λ r. omega arith, inl (omega arith, record { result = refl; output = refl })))),
@@ -278,9 +298,9 @@ encode-128 before h = inr (
 
 trace-none : Holds (trace 0 (a 0 1 ∷ a 0 2 ∷ []) (plain 7 0) (a 0 1 ∷ a 0 2 ∷ []))
 unfolding two-ones flags-code flag-count sum reach-code look-up
-trace-none before h =
-    first-passed (checks-of 0 (ones two-ones) before) (Refused (plain 7 0) before (output two-ones before)) _ (passed 0 two-ones before tt tt h)
-    (inr (not-found (InReach (base 1) (flags-code (base 1) (flags-of 0)) (flags-of 0) (cells (base 1) (ones two-ones))) two-ones before h no-trace))
+trace-none before h = unlost two-ones before .trace 0 (plain 7 0) (output two-ones before) .1
+    (first-passed (checks-of bit-values 0 (ones two-ones) before) (Refused (plain 7 0) before (output two-ones before)) _ (passed bit-values (omega arith) 0 two-ones before tt tt h)
+    (inr (not-found (InReach (base 1) (flags-code (base 1) (flags-of 0)) (flags-of 0) (cells (base 1) (ones two-ones))) two-ones before h no-trace)))
 
 -- The one table.
 pub examples-hold : Hold examples

@@ -21,6 +21,7 @@ pub mod Places
 pub mod Packing
 pub mod Front
 pub mod Numbers
+pub mod Lost
 pub mod Accepted
 pub mod Determined
 pub mod RoundTrip

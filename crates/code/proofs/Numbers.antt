@@ -1,4 +1,4 @@
--- Laws of the checks: a list of bits has no bad cell, and checks that do not apply are passed by.
+-- Laws of the checks: a list of cells that all have a value has no bad cell, and checks that do not apply are passed by.
 use mathlib.Core.Path.{_≡_, refl, sym, ap}
 use mathlib.Core.Logic.{inl, inr, ⊎-elim, _≢_, by-cases}
 use mathlib.Core.Bool.{Bool, true, false}
@@ -13,30 +13,30 @@ use Rattle.code.specs.Reach.{pick}
 use Rattle.code.specs.Calls.{Result, plain, Refused, Answered}
 use Rattle.code.specs.Numbers.{Check, count-check, input-checks, First, Passed, first-bad}
 
--- Where the first i cells are bits and cell i is not, the first bad cell is i.
-pub first-bad-at : (xs : List ℕ) (i : ℕ) → i < length xs → ((k : ℕ) → k < i → getD xs k 0 < 2) → 2 ≤ getD xs i 0 → first-bad xs ≡ i
+-- Where the first i cells have these values and cell i does not, the first bad cell is i.
+pub first-bad-at : (v : ℕ) (xs : List ℕ) (i : ℕ) → i < length xs → ((k : ℕ) → k < i → getD xs k 0 < v) → v ≤ getD xs i 0 → first-bad v xs ≡ i
 unfolding first-bad
-first-bad-at [] i h below bad = absurd (omega arith)
-first-bad-at (x ∷ xs) zero h below bad = rw (le-ltb _ _ bad)
-first-bad-at (x ∷ xs) (suc i) h below bad =
-    let first : x < 2 = below zero (omega arith) in
-    rw (lt-ltb _ _ first) (ap suc (first-bad-at xs i (omega arith) (λ k l. below (suc k) (omega arith)) bad))
+first-bad-at v [] i h below bad = absurd (omega arith)
+first-bad-at v (x ∷ xs) zero h below bad = rw (le-ltb _ _ bad)
+first-bad-at v (x ∷ xs) (suc i) h below bad =
+    let first : x < v = below zero (omega arith) in
+    rw (lt-ltb _ _ first) (ap suc (first-bad-at v xs i (omega arith) (λ k l. below (suc k) (omega arith)) bad))
 
--- A list of bits has none.
-pub first-bad-none : (xs : List ℕ) → ((k : ℕ) → k < length xs → getD xs k 0 < 2) → first-bad xs ≡ length xs
+-- Where all cells have them there is none.
+pub first-bad-none : (v : ℕ) (xs : List ℕ) → ((k : ℕ) → k < length xs → getD xs k 0 < v) → first-bad v xs ≡ length xs
 unfolding first-bad
-first-bad-none [] h = refl
-first-bad-none (x ∷ xs) h =
-    let first : x < 2 = h zero (omega arith) in
-    rw (lt-ltb _ _ first) (ap suc (first-bad-none xs (λ k l. h (suc k) (omega arith))))
+first-bad-none v [] h = refl
+first-bad-none v (x ∷ xs) h =
+    let first : x < v = h zero (omega arith) in
+    rw (lt-ltb _ _ first) (ap suc (first-bad-none v xs (λ k l. h (suc k) (omega arith))))
 
--- All cells before the first bad one are bits.
-pub first-bad-before : (xs : List ℕ) (k : ℕ) → k < first-bad xs → getD xs k 0 < 2
+-- All cells before the first bad one have them.
+pub first-bad-before : (v : ℕ) (xs : List ℕ) (k : ℕ) → k < first-bad v xs → getD xs k 0 < v
 unfolding first-bad
-first-bad-before [] k h = absurd (omega arith)
-first-bad-before (x ∷ xs) k h = go k (ltb x 2) refl h (first-bad-before xs)
+first-bad-before v [] k h = absurd (omega arith)
+first-bad-before v (x ∷ xs) k h = go k (ltb x v) refl h (first-bad-before v xs)
   where
-    go : (k : ℕ) (b : Bool) → ltb x 2 ≡ b → k < pick b (suc (first-bad xs)) 0 → ((k : ℕ) → k < first-bad xs → getD xs k 0 < 2) → getD (x ∷ xs) k 0 < 2
+    go : (k : ℕ) (b : Bool) → ltb x v ≡ b → k < pick b (suc (first-bad v xs)) 0 → ((k : ℕ) → k < first-bad v xs → getD xs k 0 < v) → getD (x ∷ xs) k 0 < v
     go k false e h rest = absurd (omega arith)
     go zero true e h rest = ltb-true _ _ e
     go (suc k) true e h rest = rest k (omega arith)

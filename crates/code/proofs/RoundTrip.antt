@@ -2,7 +2,7 @@
 use mathlib.Core.Path.{_≡_, ap}
 use mathlib.Core.Logic.{inl, inr, _≢_}
 use mathlib.Core.List.{List, [], _∷_, _++_}
-use Prim.Native.Nat.{ℕ, _*_, _<_}
+use Prim.Native.Nat.{ℕ, _*_, _<_, _≤_}
 use native.Mathlib.Omega.{arith}
 use lib.ListN.{length, getD}
 use Rattle.code.specs.Record.{Shape, Good, Same}
@@ -18,9 +18,10 @@ use Rattle.code.proofs.Places.{each-cell}
 
 -- ## Reader
 
--- A good record has no bad cell.
-no-bad-cell : (sh : Shape) (image : List ℕ) → length image ≡ image-size sh → Good sh (cells sh image) → ¬ cell-check image .applies
-no-bad-cell sh image whole good bad = omega (arith, first-bad-none image (λ k l. each-cell sh (λ i. getD image i 0 < 2) (good .bits) k (omega arith)))
+-- A good record has no bad cell, whatever values beside bits a cell may have.
+no-bad-cell : (sh : Shape) (values : ℕ) → 2 ≤ values → (image : List ℕ) → length image ≡ image-size sh → Good sh (cells sh image) → ¬ cell-check values image .applies
+no-bad-cell sh values two image whole good bad =
+    omega (arith, first-bad-none values image (λ k l. omega (arith, two, each-cell sh (λ i. getD image i 0 < 2) (good .bits) k (omega arith))))
 
 module _ (sh : Shape) (n : ℕ) (image before : List ℕ) (r : Result) (after : List ℕ) where
   -- Every good record is read.
@@ -55,7 +56,7 @@ module _ (sh : Shape) (n : ℕ) (blocks : sh .positions ≡ 8 * n) where
 -- ## Point 2
 
 -- Of an encoder and a reader whose checks give 1 to 3, the reader's bad cells after them.
-module _ (sh : Shape) (n : ℕ) (encode-checks read-checks : List ℕ → List ℕ → List {1} Check)
+module _ (sh : Shape) (values : ℕ) (two : 2 ≤ values) (n : ℕ) (encode-checks read-checks : List ℕ → List ℕ → List {1} Check)
     (encode-numbers : (payload before : List ℕ) → Avoids 0 (encode-checks payload before))
     (read-numbers : (image before : List ℕ) (k : ℕ) → k ≢ 1 → k ≢ 2 → k ≢ 3 → Avoids k (read-checks image before))
     (read-size : (image before : List ℕ) → Passed (read-checks image before) → length image ≡ image-size sh) where
@@ -63,15 +64,15 @@ module _ (sh : Shape) (n : ℕ) (encode-checks read-checks : List ℕ → List �
   encoded payload before = Answered (encode-checks payload before) (Encodes sh n payload before) before
 
   abbrev was-read : List ℕ → List ℕ → Result → List ℕ → Type 0
-  was-read image before = Answered (read-checks image before ++ (cell-check image ∷ [])) (ReadOrNot sh n image before) before
+  was-read image before = Answered (read-checks image before ++ (cell-check values image ∷ [])) (ReadOrNot sh n image before) before
 
   -- With answer 0 the checks are passed.
   encodes : (payload before : List ℕ) (r : Result) (after : List ℕ) → encoded payload before r after → r .answer ≡ 0 → Encodes sh n payload before r after
   encodes payload before r after c z = unrefused (encode-checks payload before) r before after _ (rw z (encode-numbers payload before)) c .done
 
   reads : (image before : List ℕ) (r : Result) (after : List ℕ) → was-read image before r after → r .answer ≡ 0 → Good sh (cells sh image) × Reads sh n image before r after
-  reads image before r after c z = read-0 sh n image before r after (unrefused (read-checks image before ++ (cell-check image ∷ [])) r before after _
-      (each-append _ (read-checks image before) (cell-check image ∷ []) (read-numbers image before (r .answer) (omega arith) (omega arith) (omega arith)) (λ e. omega arith, tt)) c .done) z
+  reads image before r after c z = read-0 sh n image before r after (unrefused (read-checks image before ++ (cell-check values image ∷ [])) r before after _
+      (each-append _ (read-checks image before) (cell-check values image ∷ []) (read-numbers image before (r .answer) (omega arith) (omega arith) (omega arith)) (λ e. omega arith, tt)) c .done) z
 
   pub round-trip : Point2 sh n encoded was-read
   round-trip = record {
@@ -79,13 +80,13 @@ module _ (sh : Shape) (n : ℕ) (encode-checks read-checks : List ℕ → List �
     carried = λ payload before r after c z. encodes payload before r after c z .carries;
     is-read = λ image before r after c u good.
         let t = unrefused (read-checks image before) r before after _ (read-numbers image before (r .answer) (u .0) (u .1 .0) (u .1 .1 .0))
-        (first-append (read-checks image before) (cell-check image ∷ []) (Refused r before after) (ReadOrNot sh n image before r after) c) in
+        (first-append (read-checks image before) (cell-check values image ∷ []) (Refused r before after) (ReadOrNot sh n image before r after) c) in
         past image before r after (read-size image before (t .passed)) good (t .done);
     reads-back = λ image before r after c z payload carries. payload-fixed sh n _ after payload (reads image before r after c z .1 .carries) carries;
     no-other = λ image before r after c z. reads image before r after c z .0;
   }
     where
       past : (image before : List ℕ) (r : Result) (after : List ℕ) → length image ≡ image-size sh → Good sh (cells sh image) →
-          Decides (cell-check image .applies) (Refused r before after (cell-check image)) (ReadOrNot sh n image before r after) → r .answer ≡ 0
-      past image before r after whole good (inl a) = absurd (no-bad-cell sh image whole good (a .0))
+          Decides (cell-check values image .applies) (Refused r before after (cell-check values image)) (ReadOrNot sh n image before r after) → r .answer ≡ 0
+      past image before r after whole good (inl a) = absurd (no-bad-cell sh values two image whole good (a .0))
       past image before r after whole good (inr a) = ap answer-of (read-good sh n image before r after (a .1) good .result)

@@ -46,8 +46,10 @@ spot-bit (j ∷ js) i = go (eqb i j) (spot-bit js i)
     go true h = omega arith
     go false h = h
 
-pub ones-bit : (is : List ℕ) (i : ℕ) → i < 414 → getD (ones is) i 0 < 2
-ones-bit is i h = rw (ones-at is i h) (spot-bit is i)
+pub ones-bit : (is : List ℕ) (i : ℕ) → getD (ones is) i 0 < 2
+ones-bit is i = by-cases (decLt i 414)
+    (λ h. rw (ones-at is i h) (spot-bit is i))
+    (λ h. rw (List·getD-eq-default (ones is) 0 {n = i} (omega (arith, length-ones is))) (omega arith))
 
 -- The cells of such an image, and of an output that begins with it.
 pub ones-cells : (is rest : List ℕ) → Same (base 1) (cells (base 1) (ones is ++ rest)) (spots is)

@@ -9,7 +9,7 @@ use lib.ListN.{length}
 use Rattle.code.specs.Record.{base}
 use Rattle.code.specs.Image.{image-size}
 use Rattle.code.specs.Payload.{payload-size}
-use Rattle.code.specs.Flags.{word-flags}
+use Rattle.code.specs.Lost.{bit-values, read-values}
 use Rattle.code.specs.Reach.{flags-code}
 use Rattle.code.specs.Packed.{packed-size}
 use Rattle.code.specs.Numbers.{room-check, flag-check, reach-check, padding-check, input-checks, size-checks, image-checks}
@@ -27,7 +27,7 @@ use Rattle.code.specs.Calls.{
   unpack-checks,
   Unpacks,
 }
-use Rattle.code.specs.Contracts.{Encoded, WasRead}
+use Rattle.code.specs.Contracts.{Encoded, WasRead, call-flags}
 use Rattle.code.specs.Supply.{
   MetNone,
   Mending,
@@ -61,8 +61,8 @@ use Rattle.code.proofs.RoundTrip.{round-trip}
 
 -- Repair and tracing are both of the form of proofs/Mending.
 mends : (way : Mending) (n flags : ℕ) (image before : List ℕ) (r : Result) (after : List ℕ) → Right (mend way n flags image before) r after →
-    let f = word-flags (base n) flags in
-    Answered (repair-checks (base n) n flags f image before) (Mends way (base n) (flags-code (base n) f) f image before) before r after
+    let f = call-flags n flags image in
+    Answered (repair-checks read-values (base n) n flags f image before) (Mends way (base n) (flags-code (base n) f) f image before) before r after
 mends repair n flags image before r after c = c
 mends trace n flags image before r after c = c
 
@@ -70,9 +70,9 @@ determined : (input : Input) (r other : Result) (after bytes : List ℕ) → Rig
 determined (encode n payload before) r other after bytes c d =
     encode-determined (base n) (encode-checks (base n) n payload before) before other r bytes after n payload refl d c
 determined (read n image before) r other after bytes c d =
-    read-determined (base n) (read-checks (base n) n image before) before other r bytes after n image d c
+    read-determined (base n) (read-checks read-values (base n) n image before) before other r bytes after n image d c
 determined (mend way n flags image before) r other after bytes c d =
-    mending-fixed way (base n) refl (word-flags (base n) flags) (early-checks (base n) n flags image (length before)) image before r after
+    mending-fixed way (base n) refl (call-flags n flags image) (early-checks read-values (base n) n flags image (length before)) image before r after
     (mends way n flags image before r after c) other bytes (mends way n flags image before other bytes d)
 determined (pack n image before) r other after bytes c d = pack-determined n (pack-checks n image before) before other r bytes after image d c
 determined (unpack n packed before) r other after bytes c d = unpack-determined n (unpack-checks n packed before) before other r bytes after packed d c
@@ -90,24 +90,24 @@ leaves (encode n payload before) r after =
 leaves (read n image before) r after =
     let sh = base n in
     let own = OwnAnswer (read n image before) in
-    read-leaves sh own (read-checks sh n image before) before r after n image (inl (omega arith)) (inr refl)
-    (images own (λ bytes. bytes ≡ before) (payload-size sh n) before n (image-size sh) image (payload-size sh n) (length before)
+    read-leaves sh own (read-checks read-values sh n image before) before r after n image (inl (omega arith)) (inr refl)
+    (images own (λ bytes. bytes ≡ before) (payload-size sh n) before read-values n (image-size sh) image (payload-size sh n) (length before)
     (inl (omega arith)) (inl (omega arith)) (inl (omega arith)) (inl (omega arith)))
 leaves (mend way n flags image before) r after =
     let sh = base n in
-    let f = word-flags sh flags in
+    let f = call-flags n flags image in
     let input = mend way n flags image before in
     let number : (k : ℕ) → k ≤ 6 → Leaves (OwnAnswer input) (LeftBy7 input) (image-size sh) before (plain k 0) before
     = λ k l. refusal (OwnAnswer input) (LeftBy7 input) (image-size sh) before k 0 (omega arith) (omega arith) (omega arith) (λ e. refl) in
-    λ c. mend-leaves sh (OwnAnswer input) (repair-checks sh n flags f image before) before r after (near-by way sh (flags-code sh f) f image) (names-by way sh f image) image (omega arith) (omega arith)
-    (each-append (Refusal (OwnAnswer input) (LeftBy7 input) (image-size sh) before) (image-checks n (image-size sh) image (image-size sh) (length before)) (flag-check sh flags ∷ reach-check sh f ∷ [])
-    (images (OwnAnswer input) (LeftBy7 input) (image-size sh) before n (image-size sh) image (image-size sh) (length before) (omega arith) (omega arith) (omega arith) (omega arith))
+    λ c. mend-leaves sh (OwnAnswer input) (repair-checks read-values sh n flags f image before) before r after (near-by way sh (flags-code sh f) f image) (names-by way sh f image) image (omega arith) (omega arith)
+    (each-append (Refusal (OwnAnswer input) (LeftBy7 input) (image-size sh) before) (image-checks read-values n (image-size sh) image (image-size sh) (length before)) (flag-check sh flags ∷ reach-check sh f ∷ [])
+    (images (OwnAnswer input) (LeftBy7 input) (image-size sh) before read-values n (image-size sh) image (image-size sh) (length before) (omega arith) (omega arith) (omega arith) (omega arith))
     (number 5 (omega arith), (number 6 (omega arith), tt)))
     (mends way n flags image before r after c)
 leaves (pack n image before) r after =
     let input = pack n image before in
     plain-leaves (base n) (OwnAnswer input) (pack-checks n image before) before r after (Packs n image before) (LeftBy7 input) (packed-size n) (omega arith)
-    (images (OwnAnswer input) (LeftBy7 input) (packed-size n) before n (image-size (base n)) image (packed-size n) (length before) (omega arith) (omega arith) (omega arith) (omega arith))
+    (images (OwnAnswer input) (LeftBy7 input) (packed-size n) before bit-values n (image-size (base n)) image (packed-size n) (length before) (omega arith) (omega arith) (omega arith) (omega arith))
     (λ a. (a .result, a .stays))
 leaves (unpack n packed before) r after =
     let input = unpack n packed before in
@@ -134,7 +134,7 @@ point-1 input r after c =
 -- ## Point 2
 
 pub point-2 : (n : ℕ) → Point2 (base n) n (Encoded n) (WasRead n)
-point-2 n = round-trip (base n) n (encode-checks (base n) n) (λ image before. size-checks n (image-size (base n)) (length image) (payload-size (base n) n) (length before))
+point-2 n = round-trip (base n) read-values (omega arith) n (encode-checks (base n) n) (λ image before. size-checks n (image-size (base n)) (length image) (payload-size (base n) n) (length before))
     (λ payload before. (λ e. omega arith, (λ e. omega arith, (λ e. omega arith, tt))))
     (λ image before k a b c. (λ e. a (sym e), (λ e. b (sym e), (λ e. c (sym e), tt))))
     (λ image before p. passed-exact n (image-size (base n)) (length image) (passed-both (input-checks n (image-size (base n)) (length image)) (room-check (payload-size (base n) n) (length before) ∷ []) p .0))
@@ -144,7 +144,7 @@ point-2 n = round-trip (base n) n (encode-checks (base n) n) (λ image before. s
 pub point-3 : (way : Mending) (n flags : ℕ) (image before : List ℕ) (r : Result) (after : List ℕ) → Right (mend way n flags image before) r after →
     MetNone (1 ∷ 2 ∷ 3 ∷ 4 ∷ 5 ∷ []) r → MendPoint3 way n flags image r after
 point-3 way n flags image before r after c u =
-    mending-demanded way (base n) refl (word-flags (base n) flags) (early-checks (base n) n flags image (length before)) image before r after
+    mending-demanded way (base n) refl (call-flags n flags image) (early-checks read-values (base n) n flags image (length before)) image before r after
     (mends way n flags image before r after c) (omega arith) (4 ≤ n) (λ l. omega arith)
 
 -- ## Values
@@ -152,14 +152,14 @@ point-3 way n flags image before r after c u =
 pub values : (way : Mending) (n flags : ℕ) (image before : List ℕ) (r : Result) (after : List ℕ) → Right (mend way n flags image before) r after →
     MendValues way n flags image r after
 values way n flags image before r after c =
-    mending-values way (base n) refl (word-flags (base n) flags) (early-checks (base n) n flags image (length before)) image before r after
+    mending-values way (base n) refl (call-flags n flags image) (early-checks read-values (base n) n flags image (length before)) image before r after
     (mends way n flags image before r after c) (omega arith)
 
 -- The extras that the calls name are below 18.
 pub extras-numbered : (input : Input) (r : Result) (after : List ℕ) → Right input r after → ExtrasNumbered 18 r
 extras-numbered (encode n payload before) r after c =
     plain-answers-numbered (encode-checks (base n) n payload before) before r after 18 (Encodes (base n) n payload before) (λ a. a .result) c
-extras-numbered (read n image before) r after c = read-numbered (read-checks (base n) n image before) before r after 18 (base n) n image c
+extras-numbered (read n image before) r after c = read-numbered (read-checks read-values (base n) n image before) before r after 18 (base n) n image c
 extras-numbered (mend way n flags image before) r after c = values-numbered (base n) _ _ image r after (values way n flags image before r after c)
 extras-numbered (pack n image before) r after c = plain-answers-numbered (pack-checks n image before) before r after 18 (Packs n image before) (λ a. a .result) c
 extras-numbered (unpack n packed before) r after c =

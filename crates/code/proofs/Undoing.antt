@@ -7,6 +7,7 @@ use lib.ListN.{length, getD, take}
 use lib.Seq.{ext-getD, getD-take, length-take-le}
 use Rattle.code.specs.Record.{base, Same}
 use Rattle.code.specs.Image.{image-size, cells}
+use Rattle.code.specs.Lost.{bit-values}
 use Rattle.code.specs.Packed.{packed-size, PackedForm}
 use Rattle.code.specs.Numbers.{padding-check, size-checks}
 use Rattle.code.specs.Calls.{Result, Refused, pack-checks, Packs, unpack-checks, Unpacks}
@@ -42,8 +43,8 @@ module _ (n : ℕ) where
     packed : Through (pack-checks n image before) (Packs n image before r after)
     packed = unrefused (pack-checks n image before) r before after (Packs n image before r after) (rw z (omega arith)) c
 
-    pack-right : ImageRight n images image packs (length before)
-    pack-right = image-right n images image packs (length before) (packed .passed)
+    pack-right : ImageRight bit-values n images image packs (length before)
+    pack-right = image-right bit-values n images image packs (length before) (omega arith) (packed .passed)
 
     pack-form : PackedForm n (cells (base n) image) (take packs after)
     pack-form = form-as n _ after (take packs after) (λ i h. getD-take packs after i 0 h) (packed .done .form)
@@ -71,7 +72,7 @@ module _ (n : ℕ) where
         let s = unpack-right (take packs after) output q last d y in
         let u = unpacked (take packs after) output q last d y .done in
         let k = pack-right image before r after c z in
-        let same = same-form n _ _ (take packs after) (cell-bits n last (u .bits)) (cell-bits n image (λ i h. k .bits i)) (u .form) (pack-form image before r after c z) in
+        let same = same-form n _ _ (take packs after) (cell-bits n last (u .bits)) (cell-bits n image (λ i h. k .cells i)) (u .form) (pack-form image before r after c z) in
         first-bytes images last image (omega (arith, s .fits, u .stays .lengths)) (k .sizes .exact) (same-image (base n) last image same);
   }
 
@@ -82,7 +83,7 @@ module _ (n : ℕ) where
         let u = unpacked form before r after c z .done in
         let image = take images after in
         let whole : length image ≡ images = length-take-le images after (omega (arith, s .fits, u .stays .lengths)) in
-        let p = image-pass n images image packs (length output) (sizes-pass n images (length image) packs (length output) (s .counted) whole room)
+        let p = image-pass bit-values n images image packs (length output) (sizes-pass n images (length image) packs (length output) (s .counted) whole room)
         (λ i l. let h : i < images = omega arith in rw (getD-take images after i 0 h) (u .bits i h)) in
         ap answer-of (first-rest (pack-checks n image output) (Refused q output last) (Packs n image output q last) p d .result);
     undone = λ form before r after c z output q last d y.

@@ -11,6 +11,7 @@ use Rattle.code.specs.Record.{TrackSet, A, B, Shape, base, tracks, track
 use Rattle.code.specs.Image.{track-number, all-tracks, image-size, cells}
 use Rattle.code.specs.Payload.{payload-size, Carries}
 use Rattle.code.specs.Flags.{TrackFlags, CellFlags, AgreeOff}
+use Rattle.code.specs.Lost.{bit-values}
 use Rattle.code.specs.Reach.{pick, Extra, none, extra, InReach}
 use Rattle.code.specs.Packed.{packed-size, PackedForm}
 use Rattle.code.specs.Numbers.{
@@ -70,9 +71,9 @@ pub record Encodes (sh : Shape) (n : ℕ) (payload before : List ℕ) (r : Resul
 
 -- ## Reader
 
--- It gives 1 to 4 and 7.
-abbrev pub read-checks : Shape → ℕ → List ℕ → List ℕ → List {1} Check
-read-checks sh n image before = image-checks n (image-size sh) image (payload-size sh n) (length before)
+-- It gives 1 to 4 and 7. `values` are those that a cell may have.
+abbrev pub read-checks : ℕ → Shape → ℕ → List ℕ → List ℕ → List {1} Check
+read-checks values sh n image before = image-checks values n (image-size sh) image (payload-size sh n) (length before)
 
 -- 0: the payload fills the output's first bytes.
 pub record Reads (sh : Shape) (n : ℕ) (image before : List ℕ) (r : Result) (after : List ℕ) : Type 0 where
@@ -154,13 +155,13 @@ abbrev pub Mended : Shape → (Cells → Type 0) → (List ℕ → TrackSet → 
 Mended sh near named image before r after =
     Found sh near (named after) image before r after ⊎ NotFound sh near image before r after
 
--- 1 to 5, before the flags are counted, where the output has `room` bytes.
-abbrev pub early-checks : Shape → ℕ → ℕ → List ℕ → ℕ → List {1} Check
-early-checks sh n word image room = image-checks n (image-size sh) image (image-size sh) room ++ (flag-check sh word ∷ [])
+-- 1 to 5, before the flags are counted, where the output has `room` bytes. `values` are those that a cell may have.
+abbrev pub early-checks : ℕ → Shape → ℕ → ℕ → List ℕ → ℕ → List {1} Check
+early-checks values sh n word image room = image-checks values n (image-size sh) image (image-size sh) room ++ (flag-check sh word ∷ [])
 
 -- Both calls give 1 to 6, by the flag word and by which tracks are flagged, then 0 or 7.
-abbrev pub repair-checks : Shape → ℕ → ℕ → TrackFlags → List ℕ → List ℕ → List {1} Check
-repair-checks sh n word f image before = early-checks sh n word image (length before) ++ (reach-check sh f ∷ [])
+abbrev pub repair-checks : ℕ → Shape → ℕ → ℕ → TrackFlags → List ℕ → List ℕ → List {1} Check
+repair-checks values sh n word f image before = early-checks values sh n word image (length before) ++ (reach-check sh f ∷ [])
 
 -- Repair allows no extras: the good records that equal the image on every unflagged cell.
 abbrev pub RepairNear : Shape → CellFlags → List ℕ → Cells → Type 0
@@ -194,9 +195,9 @@ Shown checks sh image g part = First checks (λ c. part ≡ []) (part ≡ take (
 
 -- ## Document 02, note 1: packing and unpacking
 
--- Packing gives 1 to 4.
+-- Packing gives 1 to 4; a lost cell cannot be packed.
 abbrev pub pack-checks : ℕ → List ℕ → List ℕ → List {1} Check
-pack-checks n image before = image-checks n (image-size (base n)) image (packed-size n) (length before)
+pack-checks n image before = image-checks bit-values n (image-size (base n)) image (packed-size n) (length before)
 
 -- 0: the output's first bytes are the image's packed form.
 pub record Packs (n : ℕ) (image before : List ℕ) (r : Result) (after : List ℕ) : Type 0 where

@@ -6,6 +6,7 @@ use Prim.Native.Nat.{ℕ, _<_}
 use lib.ListN.{length, getD}
 use Rattle.code.specs.Record.{base}
 use Rattle.code.specs.Image.{image-size, cells}
+use Rattle.code.specs.Lost.{read-values}
 use Rattle.code.specs.Numbers.{Passed}
 use Rattle.code.specs.Calls.{Result, changed-cells, early-checks}
 use Rattle.code.specs.Supply.{Mending, mend, Right}
@@ -20,7 +21,7 @@ Meets way p = (n flags : ℕ) (image before : List ℕ) → Right (mend way n fl
 
 -- This holds of what it gives whenever numbers 1 to 5 do not apply, whatever it gives where they do.
 abbrev pub Always : (ℕ → List ℕ → List ℕ → Result → List ℕ → Type 0) → Program → Type 0
-Always P p = (n flags : ℕ) (image before : List ℕ) → Passed (early-checks (base n) n flags image (length before)) →
+Always P p = (n flags : ℕ) (image before : List ℕ) → Passed (early-checks read-values (base n) n flags image (length before)) →
     P n image before (p n flags image before .0) (p n flags image before .1)
 
 -- The output's first bytes are these.

@@ -3,7 +3,8 @@
 use mathlib.Core.List.{List}
 use Prim.Native.Nat.{ℕ}
 use Rattle.code.specs.Record.{base}
-use Rattle.code.specs.Flags.{whole, word-flags}
+use Rattle.code.specs.Flags.{TrackFlags, whole, word-flags}
+use Rattle.code.specs.Lost.{read-values, with-lost}
 use Rattle.code.specs.Reach.{flags-code}
 use Rattle.code.specs.Calls.{
   Result,
@@ -27,25 +28,33 @@ use Rattle.code.specs.Calls.{
 abbrev pub Encoded : ℕ → List ℕ → List ℕ → Result → List ℕ → Type 0
 Encoded n payload before = Answered (encode-checks (base n) n payload before) (Encodes (base n) n payload before) before
 
--- Reader: block count, image, output before, answer, output after.
-abbrev pub WasRead : ℕ → List ℕ → List ℕ → Result → List ℕ → Type 0
-WasRead n image before = Answered (read-checks (base n) n image before) (ReadOrNot (base n) n image before) before
+-- Reader: block count, image, output before, answer, output after. A cell has the values below `values`.
+abbrev pub ReadBy : ℕ → ℕ → List ℕ → List ℕ → Result → List ℕ → Type 0
+ReadBy values n image before = Answered (read-checks values (base n) n image before) (ReadOrNot (base n) n image before) before
 
--- Repairer: block count, flag word, image, output before, answer, output after.
-abbrev pub Repaired : ℕ → ℕ → List ℕ → List ℕ → Result → List ℕ → Type 0
-Repaired n flags image before =
-    Answered
-    (repair-checks (base n) n flags (word-flags (base n) flags) image before)
-    (Repairs (base n) (whole (word-flags (base n) flags)) image before)
-    before
+-- Document 02, note 2: a cell may be lost. An image with a lost cell is no good record.
+abbrev pub WasRead : ℕ → List ℕ → List ℕ → Result → List ℕ → Type 0
+WasRead = ReadBy read-values
+
+-- Repairer where f are the flagged tracks: block count, flag word, image, output before, answer, output after.
+abbrev pub RepairedBy : ℕ → ℕ → ℕ → TrackFlags → List ℕ → List ℕ → Result → List ℕ → Type 0
+RepairedBy values n word f image before =
+    Answered (repair-checks values (base n) n word f image before) (Repairs (base n) (whole f) image before) before
 
 -- Tracer: the same, with the extras of the table's code for the flags.
+abbrev pub TracedBy : ℕ → ℕ → ℕ → TrackFlags → List ℕ → List ℕ → Result → List ℕ → Type 0
+TracedBy values n word f image before =
+    Answered (repair-checks values (base n) n word f image before) (Traces (base n) (flags-code (base n) f) f image before) before
+
+-- Document 02, note 2: the flagged tracks are those of the flag word and those with a lost cell.
+abbrev pub call-flags : ℕ → ℕ → List ℕ → TrackFlags
+call-flags n word image = with-lost (base n) (word-flags (base n) word) image
+
+abbrev pub Repaired : ℕ → ℕ → List ℕ → List ℕ → Result → List ℕ → Type 0
+Repaired n word image = RepairedBy read-values n word (call-flags n word image) image
+
 abbrev pub Traced : ℕ → ℕ → List ℕ → List ℕ → Result → List ℕ → Type 0
-Traced n flags image before =
-    Answered
-    (repair-checks (base n) n flags (word-flags (base n) flags) image before)
-    (Traces (base n) (flags-code (base n) (word-flags (base n) flags)) (word-flags (base n) flags) image before)
-    before
+Traced n word image = TracedBy read-values n word (call-flags n word image) image
 
 -- Track view: block count, image, track number, the part handed over.
 abbrev pub Viewed : ℕ → List ℕ → ℕ → List ℕ → Type 0

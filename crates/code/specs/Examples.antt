@@ -5,6 +5,7 @@ use Prim.Native.Nat.{ℕ, _+_, _*_, _^_, _≤_}
 use lib.ListN.{length, drop, set, replicate}
 use Rattle.code.specs.Record.{A, B, base, track-length, Good}
 use Rattle.code.specs.Image.{track-number, cells}
+use Rattle.code.specs.Lost.{read-values}
 use Rattle.code.specs.Reach.{Extra, none, extra}
 use Rattle.code.specs.Numbers.{first-bad}
 use Rattle.code.specs.Calls.{Result, plain}
@@ -39,7 +40,7 @@ Holds (good is) = Good (base 1) (cells (base 1) (ones is))
 Holds (encode payload is) = (before : List ℕ) → 414 ≤ length before → Encoded 1 payload before (plain 0 0) (ones is ++ drop 414 before)
 Holds (repair flags is r os) = (before : List ℕ) → 414 ≤ length before → Repaired 1 flags (ones is) before r (ones os ++ drop 414 before)
 Holds (trace flags is r os) = (before : List ℕ) → 414 ≤ length before → Traced 1 flags (ones is) before r (ones os ++ drop 414 before)
-Holds (refuse flags number) = (image before : List ℕ) → length image ≡ 414 → first-bad image ≡ 414 → 414 ≤ length before →
+Holds (refuse flags number) = (image before : List ℕ) → length image ≡ 414 → first-bad read-values image ≡ 414 → 414 ≤ length before →
     Repaired 1 flags image before (plain number 0) before × Traced 1 flags image before (plain number 0) before
 
 -- The record of the payload 128, 0, …, 0 without its cell A(0,1).

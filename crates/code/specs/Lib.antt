@@ -3,6 +3,7 @@ pub mod Record
 pub mod Image
 pub mod Payload
 pub mod Flags
+pub mod Lost
 pub mod Reach
 pub mod Packed
 pub mod Numbers

@@ -29,14 +29,15 @@ length-check size input = record { number = 2; detail = 0; applies = input ≢ s
 abbrev pub room-check : ℕ → ℕ → Check
 room-check size output = record { number = 3; detail = 0; applies = output < size }
 
--- The index of the first cell that is neither 0 nor 1, and the length where there is none.
-unfoldable pub first-bad : List ℕ → ℕ
-first-bad [] = 0
-first-bad (x ∷ xs) = pick (ltb x 2) (suc (first-bad xs)) 0
+-- The index of the first cell that has none of the values below `values`, and the length where there is none.
+unfoldable pub first-bad : ℕ → List ℕ → ℕ
+first-bad values [] = 0
+first-bad values (x ∷ xs) = pick (ltb x values) (suc (first-bad values xs)) 0
 
--- 4: the image has a cell that is neither 0 nor 1, and the detail is the index of the first one.
-abbrev pub cell-check : List ℕ → Check
-cell-check image = record { number = 4; detail = first-bad image; applies = first-bad image < length image }
+-- 4: the image has a cell that is neither 0 nor 1, nor lost where the call takes lost cells (document 02, note 2), and the detail is
+-- the index of the first one.
+abbrev pub cell-check : ℕ → List ℕ → Check
+cell-check values image = record { number = 4; detail = first-bad values image; applies = first-bad values image < length image }
 
 -- 5: the flag word has a bit from 18 up.
 abbrev pub flag-check : Shape → ℕ → Check
@@ -60,9 +61,9 @@ input-checks n wanted input = count-check n ∷ length-check wanted input ∷ []
 abbrev pub size-checks : ℕ → ℕ → ℕ → ℕ → ℕ → List {1} Check
 size-checks n wanted input size output = input-checks n wanted input ++ (room-check size output ∷ [])
 
--- 1 to 4, of a call that is given an image.
-abbrev pub image-checks : ℕ → ℕ → List ℕ → ℕ → ℕ → List {1} Check
-image-checks n wanted image size output = size-checks n wanted (length image) size output ++ (cell-check image ∷ [])
+-- 1 to 4, of a call that is given an image whose cells have these values.
+abbrev pub image-checks : ℕ → ℕ → ℕ → List ℕ → ℕ → ℕ → List {1} Check
+image-checks values n wanted image size output = size-checks n wanted (length image) size output ++ (cell-check values image ∷ [])
 
 -- A condition decides between two statements.
 abbrev pub Decides : Type 0 → Type 0 → Type 0 → Type 0

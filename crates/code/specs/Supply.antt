@@ -1,6 +1,7 @@
 -- The three points of the supply, a record a point and a field a sentence, what document 01 says besides of the values that repair
--- and tracing return, and what document 02 says of packing. Whatever the contracts allow has them: `point-1`, `point-2`, `point-3`
--- and `values` of proofs/Supply, `packing-undone` and `unpacking-undone` of proofs/Undoing.
+-- and tracing return, and what document 02 says of packing and of lost cells. Whatever the contracts allow has them: `point-1`,
+-- `point-2`, `point-3` and `values` of proofs/Supply, `packing-undone` and `unpacking-undone` of proofs/Undoing, `as-before` of
+-- proofs/Lost.
 use mathlib.Core.Path.{_≡_}
 use mathlib.Core.Logic.{_⊎_, _≢_, _↔_}
 use mathlib.Core.Bool.{true, false}
@@ -14,7 +15,19 @@ use Rattle.code.specs.Flags.{TrackFlags, whole, word-flags, flag-count, 
 use Rattle.code.specs.Packed.{packed-size}
 use Rattle.code.specs.Reach.{flags-code, most, Extra, none, extra, AtMostOne, Ambiguous}
 use Rattle.code.specs.Calls.{Result, plain, Stays, changed-in, changed-cells, RepairNear, TraceNear}
-use Rattle.code.specs.Contracts.{Encoded, WasRead, Repaired, Traced, WasPacked, WasUnpacked}
+use Rattle.code.specs.Lost.{bit-values, is-lost}
+use Rattle.code.specs.Contracts.{
+  Encoded,
+  ReadBy,
+  WasRead,
+  RepairedBy,
+  TracedBy,
+  call-flags,
+  Repaired,
+  Traced,
+  WasPacked,
+  WasUnpacked,
+}
 
 -- The call met none of these numbers.
 abbrev pub MetNone : List ℕ → Result → Type 0
@@ -145,11 +158,12 @@ pub record Point3 (sh : Shape) (near : Cells → Type 0) (limit long doubt : Typ
   -- agree on all unflagged tracks."
   pub said-6 : long → (r .answer ≡ 6) ↔ doubt
 
--- Of document 01's repair and tracing: n blocks, the tracks that the flag word flags, the extras of the table's code.
+-- Of repair and tracing: n blocks, the tracks that the flag word flags and those with a lost cell (document 02, note 2: "the same
+-- single good record, over the widened flags"), the extras of the table's code for them.
 abbrev pub MendPoint3 : Mending → ℕ → ℕ → List ℕ → Result → List ℕ → Type 0
 MendPoint3 way n flags image =
     let sh = base n in
-    let f = word-flags sh flags in
+    let f = call-flags n flags image in
     Point3 sh (near-by way sh (flags-code sh f) f image) (Within sh f) (4 ≤ n) (Ambiguous sh f) image
 
 -- ## Document 01, of the values that repair and tracing return
@@ -184,11 +198,11 @@ pub record Values (sh : Shape) (f : TrackFlags) (allowed : ℕ) (image : List �
   -- The mask has no bit from 18 up.
   pub mask-small : r .mask < 2 ^ all-tracks sh
 
--- Of document 01's repair and tracing.
+-- Of repair and tracing, over the widened flags.
 abbrev pub MendValues : Mending → ℕ → ℕ → List ℕ → Result → List ℕ → Type 0
 MendValues way n flags image =
     let sh = base n in
-    let f = word-flags sh flags in
+    let f = call-flags n flags image in
     Values sh f (tracks-allowed way sh (flags-code sh f) f) image
 
 -- ## Document 02, note 1: "Each undoes the other on what it accepts"
@@ -207,3 +221,16 @@ PackingUndone n = Undone (WasPacked n) (WasUnpacked n) (packed-size n) (image-si
 
 abbrev pub UnpackingUndone : ℕ → Type 0
 UnpackingUndone n = Undone (WasUnpacked n) (WasPacked n) (image-size (base n)) (packed-size n)
+
+-- ## Document 02, note 2: on images without a lost cell nothing moved
+
+-- Each relation that the note moved is the former one there: cells are 0 or 1, and the flags are those of the flag word alone.
+pub record AsBefore (n : ℕ) (image before : List ℕ) : Type 0 where
+  pub read : (r : Result) (after : List ℕ) → WasRead n image before r after ↔ ReadBy bit-values n image before r after
+  pub repair : (word : ℕ) (r : Result) (after : List ℕ) →
+      Repaired n word image before r after ↔ RepairedBy bit-values n word (word-flags (base n) word) image before r after
+  pub trace : (word : ℕ) (r : Result) (after : List ℕ) →
+      Traced n word image before r after ↔ TracedBy bit-values n word (word-flags (base n) word) image before r after
+
+abbrev pub NoneLost : List ℕ → Type 0
+NoneLost image = (i : ℕ) → is-lost (getD image i 0) ≡ false

@@ -1,5 +1,7 @@
-// The sizes of a record, the table of reach codes, and what a call answers.
+// The sizes of a record, the table of reach codes, what reading a cell yields, and what a call answers.
 ghost use mathlib.Core.Path.{_≡_};
+ghost use Prim.Native.Nat.{_<_};
+ghost use Rattle.code.specs.Lost.{byte-of, read-values, is-lost};
 ghost use Rattle.code.specs.Reach.{reach-code};
 ghost use Rattle.code.specs.Calls.{plain};
 ghost use Rattle.code.specs.Answers.{result-of};
@@ -36,6 +38,40 @@ pub fn reach(a: usize, b: usize) -> u8
         return 0;
     }
     REACH[a][b]
+}
+
+// What reading a cell yields: a bit, 0 or 1, or a cell that the drive could not read.
+pub enum Reading {
+    Zero,
+    One,
+    Lost,
+}
+
+// The reading of a cell. Here alone is it decided.
+pub fn read_cell(x: u8) -> Reading
+    requires { ⌜ x < read-values ⌝ }
+    ensures { λ r. ⌜ byte-of r ≡ x ⌝ }
+{
+    if x == 0 {
+        return Reading::Zero;
+    }
+    if x == 1 {
+        return Reading::One;
+    }
+    Reading::Lost
+}
+
+// Is a cell lost?
+pub fn is_lost(x: u8) -> bool
+    requires { ⌜ x < read-values ⌝ }
+    ensures { λ r. ⌜ r ≡ is-lost x ⌝ }
+{
+    let reading = read_cell(x);
+    match reading {
+        Reading::Zero => false,
+        Reading::One => false,
+        Reading::Lost => true,
+    }
 }
 
 // No extra track, or one with its track number.
