@@ -1,3 +1,4 @@
 pub mod Cells
+pub mod Lost
 pub mod Parts
 pub mod Rows

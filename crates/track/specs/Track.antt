@@ -1,10 +1,12 @@
 -- What the functions on one track's stretch ask and give.
 use mathlib.Core.Path.{_≡_}
 use mathlib.Core.Bool.{Bool, true, false}
-use mathlib.Core.List.{List}
+use mathlib.Core.List.{List, [], _∷_}
 use Prim.Native.Nat.{ℕ, suc, _+_, _*_, _-_, _/_, _%_, _^_, _<_, _≤_}
 use lib.ListN.{length, getD}
 use Rattle.code.specs.Record.{back, sum}
+use Rattle.code.specs.Lost.{read-values, is-lost}
+use Rattle.code.specs.Reach.{pick}
 use Rattle.code.specs.Calls.{differ}
 
 -- Row r of a list, in rows of l: track number r of an image of tracks of l cells.
@@ -14,6 +16,19 @@ row l xs r m = getD xs (r * l + m) 0
 -- Every cell is 0 or 1.
 pub record Bits (xs : List ℕ) : Type 0 where
   pub bit : (i : ℕ) → getD xs i 0 < 2
+
+-- Every cell is a reading: 0, 1 or lost.
+pub record Readings (xs : List ℕ) : Type 0 where
+  pub reading : (i : ℕ) → getD xs i 0 < read-values
+
+-- A cell, with v in its place where it is lost.
+abbrev pub fill : ℕ → ℕ → ℕ
+fill v x = pick (is-lost x) v x
+
+-- A list with v for each lost cell: with 0 in a working copy, and with a lost cell's byte the list itself.
+unfoldable pub filled : ℕ → List ℕ → List ℕ
+filled v [] = []
+filled v (x ∷ xs) = fill v x ∷ filled v xs
 
 -- `after` is `before` with a track added modulo 2, its first cell at `off`.
 pub record Added (before track : List ℕ) (off : ℕ) (after : List ℕ) : Type 0 where

@@ -2,12 +2,16 @@
 ghost use mathlib.Core.Path.{_≡_};
 ghost use Prim.Native.Nat.{ℕ, suc, _+_, _*_, _-_, _/_, _%_, _^_, _<_, _≤_};
 ghost use lib.ListN.{length, getD};
+ghost use Rattle.code.specs.Lost.{read-values};
 ghost use Rattle.code.specs.Calls.{differ};
 ghost use Rattle.code.specs.Numbers.{first-bad};
 ghost use Rattle.code.specs.Payload.{digits};
 ghost use Rattle.code.specs.Record.{sum};
 ghost use Rattle.track.specs.Track.{
   Bits,
+  Readings,
+  fill,
+  filled,
   Added,
   Cleared,
   Copied,
@@ -58,6 +62,28 @@ pub fn copy_into(out: &mut [u8], source: &[u8])
     }
 }
 
+// A cell, with `lost` in its place where it is lost.
+fn fill_cell(x: u8, lost: u8) -> u8
+    requires { ⌜ x < read-values ⌝ }
+    ensures { λ r. ⌜ r ≡ fill lost x ⌝ }
+{
+    if code::is_lost(x) { lost } else { x }
+}
+
+// Copies a stretch to the start of another, with `lost` for each lost cell.
+pub fn copy_filled(out: &mut [u8], source: &[u8], lost: u8)
+    requires { ⌜ length (now source) ≤ length (now out) ⌝ }
+    requires { ⌜ Readings (now source) ⌝ }
+    ensures { λ _. ⌜ Copied (filled lost (now (source .entry))) (now (out .entry)) (now (out .exit)) ⌝ }
+{
+    let n = source.len();
+    let mut i = 0;
+    while i < n {
+        out[i] = fill_cell(source[i], lost);
+        i += 1;
+    }
+}
+
 // The highest byte.
 pub fn highest(s: &[u8]) -> u8
     ensures { λ r. ⌜ Highest (now (s .entry)) r ⌝ }
@@ -82,17 +108,19 @@ pub fn all_zero(s: &[u8]) -> bool
     highest(s) == 0
 }
 
-// The index of the first cell that is neither 0 nor 1, and the length where there is none.
-pub fn first_bad_cell(s: &[u8]) -> usize
-    ensures { λ r. ⌜ r ≡ first-bad (now (s .entry)) ⌝ }
+// The index of the first cell that has none of the values below `values`, and the length where there is none. The highest byte says
+// whether there is one.
+pub fn first_bad_cell(s: &[u8], most: u8, values: u8) -> usize
+    requires { ⌜ Highest (now s) most ⌝ }
+    ensures { λ r. ⌜ r ≡ first-bad values (now (s .entry)) ⌝ }
 {
     let n = s.len();
-    if highest(s) < 2 {
+    if most < values {
         return n;
     }
     let mut i = 0;
     while i < n {
-        if 2 <= s[i] {
+        if values <= s[i] {
             return i;
         }
         i += 1;
