@@ -28,7 +28,7 @@
  * ones it takes more. An output has room past every result.
  */
 enum { FEW_INPUTS = 3 * AXP_TRACKS, INPUTS = 24 * AXP_TRACKS };
-enum { SET = AXP_TRACKS / 2, ROOM = AXP_MAX_IMAGE_SIZE + 64, ROWS = 16 };
+enum { SET = AXP_TRACKS / 2, ROOM = AXP_MAX_IMAGE_SIZE + 64, ROWS = 18 };
 
 /* The runs of each, spread over some passes over all cases, so that a slow spell of the machine falls on no case alone. */
 enum { PASSES = 20, RUNS = 160 };
@@ -309,6 +309,13 @@ static uint32_t last_choice(unsigned k)
     return axp_flag_a(SET - 1) | axp_flag_b(SET - 1);
 }
 
+/* Any two tracks, of which each track is as often the first. */
+static uint32_t any_two(unsigned k)
+{
+    unsigned g = k % AXP_TRACKS;
+    return (uint32_t)1 << g | (uint32_t)1 << (g + 1 + next() % (AXP_TRACKS - 1)) % AXP_TRACKS;
+}
+
 static uint32_t two_of_a_set(unsigned k) { return k % 2 ? pick(0, SET, 2) : pick(SET, SET, 2); }
 
 /* The numbers of the inputs, in an order by chance. */
@@ -330,6 +337,17 @@ static void noise(uint8_t *track, size_t l)
     track[0] ^= 1;
     for (size_t m = 1; m < l; m++)
         track[m] ^= next() & 1;
+}
+
+/* Where a burst of n cells begins, by chance: at the first cell, so late that it reaches into the tail, or anywhere. */
+static size_t burst_start(size_t l, size_t n)
+{
+    size_t places = l - n + 1, tail = l - 8 * (size_t)blocks;
+    switch (next() % 6) {
+    case 0: return 0;
+    case 1: return places - 1 - next() % (tail < places ? tail : places);
+    default: return next() % places;
+    }
 }
 
 /* What repair and tracing answer where an image is to become a record: which tracks differ, flagged or not, and the cells. */
@@ -401,6 +419,24 @@ static void add_noise(const char *name, call library, call plain, uint32_t (*tra
             if (damaged >> g & 1)
                 noise(image + g * l, l);
         row->inputs[i] = (struct input){flags, image, image, records[i], changes(image, records[i], flags)};
+    }
+}
+
+/* The same with nothing flagged: a burst of lost cells in each of two tracks, 100 of them or all of a shorter track. */
+static void add_bursts(const char *name, call library, call plain)
+{
+    size_t l = AXP_TRACK_LENGTH(blocks), size = AXP_IMAGE_SIZE(blocks), n = l < 100 ? l : 100;
+    struct row *row = add_row(name, size, size, library, plain);
+    unsigned order[INPUTS];
+    shuffle(order);
+    for (int i = 0; i < input_count; i++) {
+        uint32_t damaged = any_two(order[i]);
+        uint8_t *image = copy_of(records[i]);
+        for (unsigned g = 0; g < AXP_TRACKS; g++)
+            if (damaged >> g & 1)
+                memset(image + g * l + burst_start(l, n), AXP_LOST, n);
+        axp_result right = {AXP_OK, 0, damaged, 2 * (uint32_t)n, AXP_NO_EXTRA, AXP_NO_EXTRA};
+        row->inputs[i] = (struct input){0, image, image, records[i], right};
     }
 }
 
@@ -571,6 +607,7 @@ static void all(uint32_t n)
     add_noise("repair one flagged track", axp_repair, plain_repair, one_track, 1);
     add_noise("repair 2 + 2 tracks of noise", axp_repair, plain_repair, two_and_two, 1);
     add_noise("repair 3 + 1 tracks of noise", axp_repair, plain_repair, three_and_one, 1);
+    add_bursts("repair two bursts of lost cells", axp_repair, plain_repair);
     add_noise("trace a clean record", axp_trace, plain_trace, no_track, 0);
     add_noise("trace one unknown track", axp_trace, plain_trace, one_track, 0);
     add_noise("trace two unknown tracks", axp_trace, plain_trace, one_and_one, 0);
@@ -672,7 +709,7 @@ int main(int argc, char **argv)
         }
     }
     for (size_t i = 0; i < ROOM; i++)
-        pattern[i] = (uint8_t)(2 + next() % 254);
+        pattern[i] = (uint8_t)(AXP_LOST + 1 + next() % (255 - AXP_LOST));
     printf("%5s  %-36s %10s %8s %10s %8s %9s %9s\n", "n", "", "library ns", "copies", "plain C ns", "copies", "lib/plain", "MB/s");
     all(1);
     all(16);

@@ -9,6 +9,9 @@ enum { DATA = 7, TRACKS = DATA + 2, LAG = 2 * DATA + 1, ALL = 2 * TRACKS, ROOM =
 /* Past every track. */
 enum { NONE = 16 };
 
+/* Past every value of a cell: where none may be lost, and where some may. */
+enum { BITS = 2, READINGS = AXP_LOST + 1 };
+
 static axp_result answer(uint32_t number, uint32_t detail)
 {
     return (axp_result){number, detail, 0, 0, AXP_NO_EXTRA, AXP_NO_EXTRA};
@@ -39,15 +42,24 @@ static inline bool all_zero(const uint8_t *s, size_t n)
     return highest(s, n) == 0;
 }
 
-/* The index of the first cell that is neither 0 nor 1, and the length where there is none. */
-static size_t first_bad_cell(const uint8_t *s, size_t n)
+/* The index of the first cell that has none of so many values. There is one. */
+static size_t first_bad_cell(const uint8_t *s, uint8_t values)
 {
-    if (highest(s, n) < 2)
-        return n;
     size_t i = 0;
-    while (s[i] < 2)
+    while (s[i] < values)
         i++;
     return i;
+}
+
+/* Copies cells, and `fill` for each lost one: a plain copy where that is a lost cell too. */
+static inline void copy_filled(uint8_t *restrict out, const uint8_t *restrict source, size_t n, uint8_t fill)
+{
+    if (fill == AXP_LOST) {
+        memcpy(out, source, n);
+        return;
+    }
+    for (size_t i = 0; i < n; i++)
+        out[i] = source[i] == AXP_LOST ? fill : source[i];
 }
 
 /* The number of places at which two stretches differ: few enough that a byte holds it. */
@@ -390,22 +402,24 @@ static axp_result check_sizes(uint32_t blocks, size_t input, size_t wanted, size
     return answer(0, 0);
 }
 
-/* Numbers 1 to 4. */
-static axp_result check_image(uint32_t blocks, const uint8_t *image, size_t len, size_t room, size_t size)
+/* Numbers 1 to 4, and where none applies: is a cell lost? */
+static axp_result check_image(uint32_t blocks, const uint8_t *image, size_t len, size_t room, size_t size, uint8_t values,
+                              bool *lost)
 {
     axp_result r = check_sizes(blocks, len, AXP_IMAGE_SIZE(blocks), room, size);
     if (r.answer)
         return r;
-    size_t bad = first_bad_cell(image, len);
-    if (bad < len)
-        return answer(4, (uint32_t)bad);
+    uint8_t most = highest(image, len);
+    if (most >= values)
+        return answer(4, (uint32_t)first_bad_cell(image, values));
+    *lost = most == AXP_LOST;
     return r;
 }
 
-/* Numbers 1 to 5. */
-static axp_result check(uint32_t blocks, uint32_t flags, const uint8_t *image, size_t len, size_t room)
+/* Numbers 1 to 5, and the same. */
+static axp_result check(uint32_t blocks, uint32_t flags, const uint8_t *image, size_t len, size_t room, bool *lost)
 {
-    axp_result r = check_image(blocks, image, len, room, AXP_IMAGE_SIZE(blocks));
+    axp_result r = check_image(blocks, image, len, room, AXP_IMAGE_SIZE(blocks), READINGS, lost);
     if (r.answer)
         return r;
     if (flags >> ALL)
@@ -486,9 +500,12 @@ static void read_data(uint8_t *restrict out, size_t l, const uint8_t *restrict i
 axp_result plain_read(uint32_t blocks, const uint8_t *restrict image, size_t image_len, uint8_t *restrict out, size_t out_len)
 {
     uint8_t syn[ROOM];
-    axp_result r = check_image(blocks, image, image_len, out_len, AXP_PAYLOAD_SIZE(blocks));
+    bool lost;
+    axp_result r = check_image(blocks, image, image_len, out_len, AXP_PAYLOAD_SIZE(blocks), READINGS, &lost);
     if (r.answer)
         return r;
+    if (lost)
+        return answer(7, 0);
     size_t l = AXP_TRACK_LENGTH(blocks);
     syndromes(image, l, syn);
     if (!is_good(image, syn, l))
@@ -527,7 +544,8 @@ static void unpack_track(uint8_t *restrict track, const uint8_t *restrict bytes,
 
 axp_result plain_pack(uint32_t blocks, const uint8_t *restrict image, size_t image_len, uint8_t *restrict out, size_t out_len)
 {
-    axp_result r = check_image(blocks, image, image_len, out_len, AXP_PACKED_SIZE(blocks));
+    bool lost;
+    axp_result r = check_image(blocks, image, image_len, out_len, AXP_PACKED_SIZE(blocks), BITS, &lost);
     if (r.answer)
         return r;
     size_t l = AXP_TRACK_LENGTH(blocks), n = (size_t)blocks + 2;
@@ -574,6 +592,14 @@ static void marks_of(uint32_t flags, uint8_t marks[ALL])
     }
 }
 
+/* Marks the tracks that have a lost cell. */
+static void mark_lost(uint8_t marks[ALL], const uint8_t *image, size_t l)
+{
+    for (size_t g = 0; g < ALL; g++)
+        if (highest(image + g * l, l) == AXP_LOST)
+            marks[g] = 1;
+}
+
 static size_t count_marks(const uint8_t *marks, size_t n)
 {
     size_t count = 0;
@@ -594,12 +620,12 @@ static size_t count_track(const uint8_t *image, const uint8_t *out, size_t l, si
     return count_differing(image + g * l, out + g * l, l);
 }
 
-/* Copies the marked tracks of the image back, of which alone any are changed. */
-static void restore(const uint8_t marks[ALL], const uint8_t *restrict image, uint8_t *restrict out, size_t l)
+/* Copies the marked tracks of the image back, of which alone any are changed, with `fill` for each lost cell. */
+static void restore(const uint8_t marks[ALL], const uint8_t *restrict image, uint8_t *restrict out, size_t l, uint8_t fill)
 {
     for (size_t g = 0; g < ALL; g++)
         if (marks[g] == 1)
-            memcpy(out + g * l, image + g * l, l);
+            copy_filled(out + g * l, image + g * l, l, fill);
 }
 
 /* The extra that is named: a track that was changed. */
@@ -628,13 +654,20 @@ static axp_result answer_of(const uint8_t marks[ALL], const uint8_t *image, cons
 
 /* ---- repairer */
 
-/* Solves a copy of the image by the marked tracks. Where there is no good record the output is the image again. */
-static bool work(const uint8_t marks[ALL], const uint8_t *restrict image, uint8_t *restrict out, uint8_t *restrict syn, size_t l)
+/* What a working copy has for a lost cell: 0. Without any it is a plain copy. */
+static inline uint8_t working(bool lost)
+{
+    return lost ? 0 : AXP_LOST;
+}
+
+/* Solves a working copy by the marked tracks. Where there is no good record the output is the image with `fill`. */
+static bool work(const uint8_t marks[ALL], const uint8_t *restrict image, uint8_t *restrict out, uint8_t *restrict syn, size_t l,
+                 uint8_t fill)
 {
     plan a = make_plan(marks, 0), b = make_plan(marks, 1);
     if (solve(out, syn, l, a, b))
         return true;
-    restore(marks, image, out, l);
+    restore(marks, image, out, l, fill);
     return false;
 }
 
@@ -642,16 +675,19 @@ axp_result plain_repair(uint32_t blocks, uint32_t flags, const uint8_t *restrict
                         size_t out_len)
 {
     uint8_t marks[ALL], syn[ROOM];
-    axp_result r = check(blocks, flags, image, image_len, out_len);
+    bool lost;
+    axp_result r = check(blocks, flags, image, image_len, out_len, &lost);
     if (r.answer)
         return r;
+    size_t l = AXP_TRACK_LENGTH(blocks);
     marks_of(flags, marks);
+    if (lost)
+        mark_lost(marks, image, l);
     if (code_of(marks) == 0)
         return answer(6, 0);
-    size_t l = AXP_TRACK_LENGTH(blocks);
-    memcpy(out, image, image_len);
-    syndromes(image, l, syn);
-    if (work(marks, image, out, syn, l))
+    copy_filled(out, image, image_len, working(lost));
+    syndromes(out, l, syn);
+    if (work(marks, image, out, syn, l, AXP_LOST))
         return answer_of(marks, image, out, l, 0, 0);
     return answer(7, 0);
 }
@@ -692,24 +728,28 @@ axp_result plain_trace(uint32_t blocks, uint32_t flags, const uint8_t *restrict 
                        size_t out_len)
 {
     uint8_t marks[ALL], wide[ALL], first[ROOM], syn[ROOM];
-    axp_result r = check(blocks, flags, image, image_len, out_len);
+    bool lost;
+    axp_result r = check(blocks, flags, image, image_len, out_len, &lost);
     if (r.answer)
         return r;
+    size_t l = AXP_TRACK_LENGTH(blocks);
     marks_of(flags, marks);
+    if (lost)
+        mark_lost(marks, image, l);
     uint8_t code = code_of(marks);
     if (code == 0)
         return answer(6, 0);
-    size_t l = AXP_TRACK_LENGTH(blocks);
-    memcpy(out, image, image_len);
-    syndromes(image, l, first);
+    copy_filled(out, image, image_len, working(lost));
+    syndromes(out, l, first);
     for (size_t a = 0; a <= TRACKS; a++)
         for (size_t b = 0; b <= TRACKS; b++) {
             if (!allows(code, marks, a, b))
                 continue;
             widen(marks, a, b, wide);
             memcpy(syn, first, 4 * l);
-            if (work(wide, image, out, syn, l))
+            if (work(wide, image, out, syn, l, working(lost)))
                 return answer_of(wide, image, out, l, a, b);
         }
+    restore(marks, image, out, l, AXP_LOST);
     return answer(7, 0);
 }

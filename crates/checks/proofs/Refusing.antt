@@ -48,6 +48,6 @@ pub size-passes : (n wanted input size output : ℕ) (r : Result) → FirstAnswe
     Passed (size-checks n wanted input size output)
 size-passes n wanted input size output r = passes (size-checks n wanted input size output) r (omega arith)
 
-pub image-passes : (n wanted : ℕ) (image : List ℕ) (size output : ℕ) (r : Result) → FirstAnswer (image-checks n wanted image size output) r → r .answer ≡ 0 →
-    Passed (image-checks n wanted image size output)
-image-passes n wanted image size output r = passes (image-checks n wanted image size output) r (omega arith)
+pub image-passes : (values n wanted : ℕ) (image : List ℕ) (size output : ℕ) (r : Result) → FirstAnswer (image-checks values n wanted image size output) r → r .answer ≡ 0 →
+    Passed (image-checks values n wanted image size output)
+image-passes values n wanted image size output r = passes (image-checks values n wanted image size output) r (omega arith)
