@@ -1,10 +1,11 @@
 -- What encoder and reader do together (point 2), for any shape of n blocks and any checks.
 use mathlib.Core.Path.{_≡_, ap}
-use mathlib.Core.Logic.{inl, inr, _≢_}
+use mathlib.Core.Logic.{inl, inr, _≢_, by-cases}
 use mathlib.Core.List.{List, [], _∷_, _++_}
 use Prim.Native.Nat.{ℕ, _*_, _<_, _≤_}
+use native.Mathlib.Decide.{decLt}
 use native.Mathlib.Omega.{arith}
-use lib.ListN.{length, getD}
+use lib.ListN.{length, getD, List·getD-eq-default}
 use Rattle.code.specs.Record.{Shape, Good, Same}
 use Rattle.code.specs.Image.{image-size, cells}
 use Rattle.code.specs.Payload.{payload-size}
@@ -18,10 +19,16 @@ use Rattle.code.proofs.Places.{each-cell}
 
 -- ## Reader
 
--- A good record has no bad cell, whatever values beside bits a cell may have.
+-- The bytes of a good record are bits.
+pub good-bits : (sh : Shape) (image : List ℕ) → length image ≡ image-size sh → Good sh (cells sh image) → (i : ℕ) → getD image i 0 < 2
+good-bits sh image whole good i = by-cases (decLt i (length image))
+    (λ h. each-cell sh (λ i. getD image i 0 < 2) (good .bits) i (omega arith))
+    (λ h. rw (List·getD-eq-default image 0 {n = i} (omega arith)) (omega arith))
+
+-- It has no bad cell, whatever values beside bits a cell may have.
 no-bad-cell : (sh : Shape) (values : ℕ) → 2 ≤ values → (image : List ℕ) → length image ≡ image-size sh → Good sh (cells sh image) → ¬ cell-check values image .applies
 no-bad-cell sh values two image whole good bad =
-    omega (arith, first-bad-none values image (λ k l. omega (arith, two, each-cell sh (λ i. getD image i 0 < 2) (good .bits) k (omega arith))))
+    omega (arith, first-bad-none values image (λ k l. omega (arith, two, good-bits sh image whole good k)))
 
 module _ (sh : Shape) (n : ℕ) (image before : List ℕ) (r : Result) (after : List ℕ) where
   -- Every good record is read.

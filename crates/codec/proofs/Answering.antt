@@ -6,6 +6,7 @@ use Prim.Native.Nat.{ℕ, _+_, _*_, _≤_}
 use lib.ListN.{length, drop}
 use Rattle.code.specs.Record.{Shape, Good}
 use Rattle.code.specs.Image.{image-size, cells}
+use Rattle.code.specs.Lost.{read-values}
 use Rattle.code.specs.Numbers.{Passed}
 use Rattle.code.specs.Calls.{
   Result,
@@ -52,15 +53,15 @@ module _ (sh : Shape) (n : ℕ) (payload before : List ℕ) (r : Result) where
 
 module _ (sh : Shape) (n : ℕ) (image before : List ℕ) (r : Result) where
   abbrev Read : List ℕ → Type 0
-  Read after = Answered (read-checks sh n image before) (ReadOrNot sh n image before) before r after
+  Read after = Answered (read-checks read-values sh n image before) (ReadOrNot sh n image before) before r after
 
   -- A number.
-  pub refused-read : FirstAnswer (read-checks sh n image before) r → r .answer ≢ 0 → Read before
-  refused-read = refuses-call (read-checks sh n image before) [] r (ReadOrNot sh n image before) before
+  pub refused-read : FirstAnswer (read-checks read-values sh n image before) r → r .answer ≢ 0 → Read before
+  refused-read = refuses-call (read-checks read-values sh n image before) [] r (ReadOrNot sh n image before) before
 
-  module _ (passed : Passed (read-checks sh n image before)) where
+  module _ (passed : Passed (read-checks read-values sh n image before)) where
     done : (after : List ℕ) → ReadOrNot sh n image before r after → Read after
-    done after = first-passed (read-checks sh n image before) (Refused r before after) (ReadOrNot sh n image before r after) passed
+    done after = first-passed (read-checks read-values sh n image before) (Refused r before after) (ReadOrNot sh n image before r after) passed
 
     -- The payload.
     pub was-read : (after : List ℕ) → r ≡ plain 0 0 → Good sh (cells sh image) → Reading sh n (sh .t1 + sh .t2) image before after → Read after

@@ -11,7 +11,8 @@ ghost use Rattle.code.specs.Sizes.{shape, Small};
 ghost use Rattle.code.specs.Contracts.{Encoded, WasRead};
 ghost use Rattle.code.specs.Answers.{result-of};
 ghost use Rattle.track.specs.Track.{Bits};
-ghost use Rattle.syndrome.specs.Syndrome.{Image, Tested};
+ghost use Rattle.checks.specs.Lost.{LostTold};
+ghost use Rattle.syndrome.specs.Syndrome.{Tested};
 ghost use Rattle.syndrome.specs.Steps.{Rows, cells-of};
 ghost use Rattle.codec.specs.Steps.{
   Sized,
@@ -196,12 +197,16 @@ fn read_data(out: &mut [u8], z: Sizes, image: &[u8], blocks: usize)
     }
 }
 
-// Is an image of bits a good record?
-fn image_good(image: &[u8], z: Sizes) -> bool
+// Is an image a good record? One with a lost cell is not.
+fn image_good(image: &[u8], z: Sizes, lost: bool) -> bool
     requires { ⌜ Small z ⌝ }
-    requires { ⌜ Image (shape z) (now image) ⌝ }
+    requires { ⌜ length (now image) ≡ image-size (shape z) ⌝ }
+    requires { ⌜ LostTold (now image) lost ⌝ }
     ensures { λ r. ⌜ Tested (shape z) (cells (shape z) (now (image .entry))) r ⌝ }
 {
+    if lost {
+        return false;
+    }
     let l = z.positions + (z.t1 + z.t2 + 1);
     let mut room = [0u8; 8252];
     let sums = &mut room[..4 * l];
@@ -214,7 +219,8 @@ pub fn read(blocks: u32, image: &[u8], out: &mut [u8]) -> Answer
     ensures { λ r. ⌜ WasRead blocks (now (image .entry)) (now (out .entry)) (result-of r) (now (out .exit)) ⌝ }
 {
     let n = blocks as usize;
-    let first = checks::check_image(blocks, image, 18 * (8 * n + 15), out.len(), n * 14);
+    let seen = checks::check_image(blocks, image, 3, 18 * (8 * n + 15), out.len(), n * 14);
+    let first = seen.answer;
     if first.number != 0 {
         return first;
     }
@@ -223,7 +229,7 @@ pub fn read(blocks: u32, image: &[u8], out: &mut [u8]) -> Answer
         t2: 7,
         positions: 8 * n,
     };
-    if !image_good(image, z) {
+    if !image_good(image, z, seen.lost) {
         return plain_answer(7, 0);
     }
     read_data(out, z, image, n);

@@ -83,7 +83,8 @@ pub fn pack(blocks: u32, image: &[u8], out: &mut [u8]) -> Answer
 {
     let n = blocks as usize;
     let size = 18 * (n + 2);
-    let first = checks::check_image(blocks, image, 18 * (8 * n + 15), out.len(), size);
+    let seen = checks::check_image(blocks, image, 2, 18 * (8 * n + 15), out.len(), size);
+    let first = seen.answer;
     if first.number != 0 {
         return first;
     }

@@ -5,6 +5,7 @@ use borrow.Author.Needs.{needs}
 use denote.Ref.{now}
 use lib.ListN.{length}
 use lib.Seq.{length-take-le}
+use Rattle.code.specs.Lost.{bit-values}
 use Rattle.code.specs.Numbers.{Passed}
 use Rattle.code.specs.Calls.{pack-checks}
 use Rattle.code.proofs.Accepted.{ImageRight, image-right}
@@ -14,12 +15,12 @@ use Rattle.packed.proofs.pack.Statement.{statement}
 use Rattle.packed.proofs.pack.Tie as tie
 
 -- No check applies.
-passed : (c : tie.Else1) → let a = c .before .before .before .before .before .args in Passed (pack-checks (a .blocks) (now (a .image)) (now (a .out)))
-passed c = image-passes _ _ _ _ _ _ (c .before .before .check-image .ensures) (c .if1 .left)
+passed : (c : tie.Else1) → let a = c .before .before .before .before .before .before .args in Passed (pack-checks (a .blocks) (now (a .image)) (now (a .out)))
+passed c = image-passes _ _ _ _ _ _ _ (c .before .before .before .check-image .ensures .0) (c .if1 .left)
 
-right : (c : tie.Else1) → let a = c .before .before .before .before .before .args in
-    ImageRight (a .blocks) (18 * (8 * a .blocks + 15)) (now (a .image)) (18 * (a .blocks + 2)) (length (now (a .out)))
-right c = image-right _ _ _ _ _ (passed c)
+right : (c : tie.Else1) → let a = c .before .before .before .before .before .before .args in
+    ImageRight bit-values (a .blocks) (18 * (8 * a .blocks + 15)) (now (a .image)) (18 * (a .blocks + 2)) (length (now (a .out)))
+right c = image-right _ _ _ _ _ _ (search needs) (passed c)
 
 add-size : tie.Need-add-size
 add-size c = search needs
@@ -41,8 +42,8 @@ check-image-requires c κs = search needs
 
 returns : tie.Need-returns
 returns c =
-    let a = c .before .before .before .before .before .args in
-    not-packed (a .blocks) (now (a .image)) (now (a .out)) _ (c .before .before .check-image .ensures) (c .if1 .taken)
+    let a = c .before .before .before .before .before .before .args in
+    not-packed (a .blocks) (now (a .image)) (now (a .out)) _ (c .before .before .before .check-image .ensures .0) (c .if1 .taken)
 
 slice-relend-prefix-pack-image : tie.Need-slice-relend-prefix-pack-image
 slice-relend-prefix-pack-image c = right c .sizes .fits
@@ -53,7 +54,7 @@ slice-aggregate-pack-image c = sym (length-take-le _ _ (right (c .before) .sizes
 pack-image-requires : tie.Need-pack-image-requires
 pack-image-requires c κs =
     let p = right (c .before) in
-    (record { form = record { few = p .sizes .few; size = length-take-le _ _ (p .sizes .fits) }; whole = p .sizes .exact }, record { bit = p .bits })
+    (record { form = record { few = p .sizes .few; size = length-take-le _ _ (p .sizes .fits) }; whole = p .sizes .exact }, record { bit = p .cells })
 
 plain-answer-requires : tie.Need-plain-answer-requires
 plain-answer-requires c κs = search needs
@@ -65,7 +66,7 @@ returns-2 : tie.Need-returns-2
 returns-2 c =
     let w = c .before .before .before in
     let e = w .before .before in
-    let a = e .before .before .before .before .before .args in
+    let a = e .before .before .before .before .before .before .args in
     was-packed (a .blocks) (now (a .image)) (now (a .out)) _ (passed e) (right e .sizes .fits) _ (c .plain-answer .ensures) (w .pack-image .ensures)
 
 pub pack-spec : {M : Type 1} → statement M
