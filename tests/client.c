@@ -14,7 +14,7 @@ static void expect(int ok, const char *what)
     }
 }
 
-/* An answer of packing or unpacking, in which no number past the detail is ever set. */
+/* An answer in which no number past the detail is set, as in every one of packing and unpacking. */
 static int is_plain(axp_result r, uint32_t answer, uint32_t detail)
 {
     return r.answer == answer && r.detail == detail && r.mask == 0 && r.cells == 0 && r.extra_a == AXP_NO_EXTRA && r.extra_b == AXP_NO_EXTRA;
@@ -65,11 +65,53 @@ static void packing(uint32_t n, const uint8_t *image)
     expect(is_plain(axp_pack(n, cells, size, packed, bytes - 1), AXP_OUTPUT_SHORT, 0), "pack to a short output");
     expect(is_plain(axp_pack(n, cells, size - 1, packed, bytes), AXP_INPUT_LENGTH, 0), "pack a cell less");
     expect(is_plain(axp_pack(n, cells, size + 1, packed, bytes), AXP_INPUT_LENGTH, 0), "pack a cell more");
-    cells[size - 1] = 2;
+    cells[size - 1] = AXP_LOST;
     expect(is_plain(axp_pack(n, cells, size, packed, bytes), AXP_CELL_VALUE, (uint32_t)(size - 1)), "pack a wrong last cell");
     cells[7] = 255;
     expect(is_plain(axp_pack(n, cells, size, packed, bytes), AXP_CELL_VALUE, 7), "pack two wrong cells");
     expect(is_filled(packed, 0, sizeof packed, 0xaa), "output of a refused packing");
+}
+
+/* Was a record found that changes so many cells, in the lost tracks A2 and B8 and in the others, and is this extra of A named alone? */
+static int is_found(axp_result r, size_t cells, uint32_t others, uint32_t extra_a)
+{
+    return r.answer == AXP_OK && r.detail == 0 && r.mask == (axp_flag_a(2) | axp_flag_b(8) | others) && r.cells == cells && r.extra_a == extra_a && r.extra_b == AXP_NO_EXTRA;
+}
+
+/* A record with a track that the drive could not read and with one lost cell in another, then with more and more against it. */
+static void lost(uint32_t n, const uint8_t *image)
+{
+    static uint8_t cells[AXP_MAX_IMAGE_SIZE], out[AXP_MAX_IMAGE_SIZE + 8], bytes[AXP_MAX_PACKED_SIZE];
+    size_t l = AXP_TRACK_LENGTH(n), size = AXP_IMAGE_SIZE(n), t;
+    memcpy(cells, image, size);
+    memset(cells + 2 * l, AXP_LOST, l);
+    cells[size - 1] = AXP_LOST;
+    memset(out, 0x55, sizeof out);
+    expect(is_found(axp_repair(n, 0, cells, size, out, sizeof out), l + 1, 0, AXP_NO_EXTRA) && memcmp(out, image, size) == 0, "repair of lost cells");
+    expect(is_filled(out, size, sizeof out, 0x55), "bytes past the repaired image");
+    expect(is_found(axp_trace(n, axp_flag_a(2), cells, size, out, size), l + 1, 0, AXP_NO_EXTRA) && memcmp(out, image, size) == 0, "trace of lost cells");
+    cells[4 * l + 8 * n - 1] ^= 1;
+    expect(is_found(axp_trace(n, 0, cells, size, out, size), l + 2, axp_flag_a(4), 4) && memcmp(out, image, size) == 0, "extra beside lost cells");
+    expect(is_plain(axp_repair(n, 0, cells, size, out, size), AXP_NO_RECORD, 0) && memcmp(out, cells, size) == 0 && out[size - 1] == AXP_LOST, "lost cells after 7");
+
+    memset(out, 0x55, sizeof out);
+    memset(bytes, 0xaa, sizeof bytes);
+    expect(is_plain(axp_repair(n, axp_flag_b(9), cells, size, out, size), AXP_FLAG_BIT, 0), "flag of no track beside lost cells");
+    for (t = 5; t < 8; t++)
+        cells[t * l + t] = AXP_LOST;
+    expect(is_plain(axp_repair(n, 0, cells, size, out, size), AXP_TOO_MANY, 0), "repair of too many lost tracks");
+    expect(is_plain(axp_trace(n, 0, cells, size, out, size), AXP_TOO_MANY, 0), "trace of too many lost tracks");
+    expect(is_plain(axp_read(n, cells, size, bytes, sizeof bytes), AXP_NO_RECORD, 0), "read lost cells");
+    cells[size - 2] = AXP_LOST + 1;
+    expect(is_plain(axp_read(n, cells, size, bytes, sizeof bytes), AXP_CELL_VALUE, (uint32_t)(size - 2)), "read a 3 behind lost cells");
+    expect(is_plain(axp_repair(n, 0, cells, size, out, size), AXP_CELL_VALUE, (uint32_t)(size - 2)), "repair a 3 behind lost cells");
+    expect(is_plain(axp_trace(n, 0, cells, size, out, size), AXP_CELL_VALUE, (uint32_t)(size - 2)), "trace a 3 behind lost cells");
+    expect(is_plain(axp_pack(n, cells, size, bytes, sizeof bytes), AXP_CELL_VALUE, (uint32_t)(2 * l)), "pack lost cells");
+    memcpy(cells, image, size);
+    cells[l] = AXP_LOST;
+    expect(is_plain(axp_read(n, cells, size, bytes, sizeof bytes), AXP_NO_RECORD, 0), "read a lost cell");
+    expect(is_plain(axp_pack(n, cells, size, bytes, sizeof bytes), AXP_CELL_VALUE, (uint32_t)l), "pack a lost cell");
+    expect(is_filled(out, 0, sizeof out, 0x55) && is_filled(bytes, 0, sizeof bytes, 0xaa), "outputs of refused lost cells");
 }
 
 static void one(uint32_t n)
@@ -86,6 +128,7 @@ static void one(uint32_t n)
     r = axp_read(n, image, size, back, bytes + 8);
     expect(r.answer == AXP_OK && memcmp(back, payload, bytes) == 0 && back[bytes] == 0xaa, "read");
     packing(n, image);
+    lost(n, image);
     memcpy(damaged, image, size);
     for (i = 0; i < l; i++) {
         damaged[1 * l + i] ^= i % 3 == 0;

@@ -8,12 +8,14 @@ use lib.Dec.{eqb}
 use lib.ListN.{length, getD}
 use Rattle.code.specs.Record.{TrackSet, A, B, Shape, tracks, track-length, Cells, sum, Good}
 use Rattle.code.specs.Image.{all-tracks, image-size, cells}
-use Rattle.code.specs.Flags.{TrackFlags, whole, bit, AgreeOff, Within}
+use Rattle.code.specs.Flags.{TrackFlags, whole, bit, AgreeOff, Within, any}
+use Rattle.code.specs.Lost.{is-lost, with-lost}
 use Rattle.code.specs.Reach.{pick, flags-code, Extra, none, extra, Choice, Allowed, with-extras, InReach}
 use Rattle.code.specs.Calls.{Result, differ, changed-cells, changed-mask, mended}
 use Rattle.code.specs.Sizes.{shape, Small}
 use Rattle.code.specs.declared.Sizes.{Sizes}
-use Rattle.syndrome.specs.Syndrome.{Image, Kept}
+use Rattle.track.specs.Track.{Readings}
+use Rattle.syndrome.specs.Syndrome.{Kept}
 use Rattle.solver.specs.Solver.{marked}
 use Rattle.repair.specs.declared.Changes.{Changes}
 use Rattle.repair.specs.declared.Hit.{Hit}
@@ -24,6 +26,20 @@ use Rattle.repair.specs.declared.Hit.{Hit}
 pub record Marks (flags : ℕ) (marks : List ℕ) : Type 0 where
   pub size : length marks ≡ 18
   pub marks-at : (g : ℕ) → g < 18 → getD marks g 0 ≡ flags / 2 ^ g % 2
+
+-- Has track number g, of l cells, a lost cell?
+abbrev pub lost-at : ℕ → List ℕ → ℕ → Bool
+lost-at l image g = any l (λ m. is-lost (getD image (g * l + m) 0))
+
+-- An image whose cells are readings.
+pub record ReadImage (sh : Shape) (image : List ℕ) : Type 0 where
+  pub size : length image ≡ image-size sh
+  pub readings : Readings image
+
+-- The marks, and those of the tracks with a lost cell.
+pub record LostMarked (sh : Shape) (marks image r : List ℕ) : Type 0 where
+  pub size : length r ≡ 18
+  pub flags : (s : TrackSet) (t : ℕ) → t < tracks sh s → marked sh r s t ≡ with-lost sh (marked sh marks) image s t
 
 -- What a mark counts.
 pub record Counts (x r : ℕ) : Type 0 where
@@ -76,20 +92,22 @@ named-at l image out first (suc t) = pick (eqb (changed-at l image out (first + 
 
 -- ## One set of flags
 
--- A copy of the image, the image's syndromes, and marks that the code can repair.
-pub record Workable (z : Sizes) (marks image out syn : List ℕ) : Type 0 where
+-- A copy of the image, the image's syndromes, and marks that the code can repair. `last` is the image as it is put back, which differs
+-- in marked tracks at the most.
+pub record Workable (z : Sizes) (marks image last out syn : List ℕ) : Type 0 where
   pub kept : Kept z image syn
   pub copy : out ≡ image
   pub marks-size : all-tracks (shape z) ≤ length marks
   pub within : Within (shape z) (marked (shape z) marks)
+  pub put-back : OnlyMarked z marks last image
 
--- What comes of them: true with a good record, or false, and there is none, and the output is the image again.
-pub record Worked (sh : Shape) (f : TrackFlags) (image after : List ℕ) (r : Bool) : Type 0 where
+-- What comes of them: true with a good record, or false, and there is none, and the image is put back.
+pub record Worked (sh : Shape) (f : TrackFlags) (image last after : List ℕ) (r : Bool) : Type 0 where
   pub size : length after ≡ image-size sh
   pub good : r ≡ true → Good sh (cells sh after)
   pub agree : r ≡ true → AgreeOff sh (whole f) (cells sh image) (cells sh after)
   pub no-record : r ≡ false → (y : Cells) → Good sh y → AgreeOff sh (whole f) (cells sh image) y → ⊥
-  pub back : r ≡ false → after ≡ image
+  pub back : r ≡ false → after ≡ last
 
 -- ## Choices of extras
 
@@ -170,10 +188,12 @@ mended-at sh image out a b = mended sh (cells sh image) (cells sh out) (names-at
 
 -- ## Whole records
 
--- An image of bits, an output of its size, and marks that have a code.
+-- An image, an output of its size, and marks that have a code and leave no lost cell unmarked.
 pub record Given (z : Sizes) (marks image out : List ℕ) : Type 0 where
   pub small : Small z
-  pub image-is : Image (shape z) image
+  pub image-is : ReadImage (shape z) image
+  pub covered : (s : TrackSet) (t m : ℕ) → t < tracks (shape z) s → m < track-length (shape z) → marked (shape z) marks s t ≡ false →
+      is-lost (cells (shape z) image s t m) ≡ false
   pub out-has : length out ≡ image-size (shape z)
   pub marks-size : length marks ≡ 18
   pub coded : flags-code (shape z) (marked (shape z) marks) ≢ 0

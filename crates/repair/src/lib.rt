@@ -3,21 +3,30 @@ use code::Answer;
 use code::Extra;
 use code::Sizes;
 use code::plain_answer;
+use checks::Checked;
 ghost use mathlib.Core.Path.{_≡_};
-ghost use Prim.Native.Nat.{_+_, _≤_};
+ghost use mathlib.Core.Bool.{_||_};
+ghost use Prim.Native.Nat.{_+_, _*_, _≤_};
+ghost use lib.Dec.{eqb};
 ghost use lib.ListN.{length};
 ghost use Rattle.code.specs.Record.{base};
 ghost use Rattle.code.specs.Image.{all-tracks};
 ghost use Rattle.code.specs.Flags.{whole};
+ghost use Rattle.code.specs.Lost.{read-values};
 ghost use Rattle.code.specs.Reach.{size, flags-code};
 ghost use Rattle.code.specs.Calls.{early-checks, Repairs, Traces};
 ghost use Rattle.code.specs.Contracts.{Repaired, Traced};
 ghost use Rattle.code.specs.Answers.{extra-of, result-of};
 ghost use Rattle.code.specs.Sizes.{shape, Small};
+ghost use Rattle.track.specs.Track.{Readings, filled};
 ghost use Rattle.checks.specs.First.{FirstAnswer};
+ghost use Rattle.checks.specs.Lost.{LostTold};
 ghost use Rattle.solver.specs.Solver.{marked};
 ghost use Rattle.repair.specs.Steps.{
   Marks,
+  lost-at,
+  ReadImage,
+  LostMarked,
   Counts,
   marks-in,
   HasTrack,
@@ -60,6 +69,46 @@ fn marks_of(flags: u32) -> [u8; 18]
     marks
 }
 
+// Has track number g a lost cell?
+fn track_lost(image: &[u8], l: usize, g: usize) -> bool
+    requires { ⌜ g * l + l ≤ length (now image) ⌝ }
+    requires { ⌜ Readings (now image) ⌝ }
+    ensures { λ r. ⌜ r ≡ lost-at l (now (image .entry)) g ⌝ }
+{
+    let start = g * l;
+    let end = start + l;
+    code::is_lost(track::highest(&image[start..end]))
+}
+
+// The mark of a track with this mark, which has a lost cell or not.
+fn lost_mark(x: u8, lost: bool) -> u8
+    ensures { λ r. ⌜ eqb r 1 ≡ eqb x 1 || lost ⌝ }
+{
+    if lost { 1 } else { x }
+}
+
+// The marks, and those of the tracks with a lost cell. An image without one is not scanned again.
+fn mark_lost(z: Sizes, marks: [u8; 18], image: &[u8], lost: bool) -> [u8; 18]
+    requires { ⌜ Small z ⌝ }
+    requires { ⌜ length marks ≡ 18 ⌝ }
+    requires { ⌜ ReadImage (shape z) (now image) ⌝ }
+    requires { ⌜ LostTold (now image) lost ⌝ }
+    ensures { λ r. ⌜ LostMarked (shape z) marks (now (image .entry)) r ⌝ }
+{
+    let mut wide = marks;
+    if !lost {
+        return wide;
+    }
+    let l = z.positions + (z.t1 + z.t2 + 1);
+    let all = z.t1 + z.t2 + 4;
+    let mut g = 0;
+    while g < all {
+        wide[g] = lost_mark(wide[g], track_lost(image, l, g));
+        g += 1;
+    }
+    wide
+}
+
 // What a mark counts.
 fn mark(x: u8) -> usize
     ensures { λ r. ⌜ Counts x r ⌝ }
@@ -93,19 +142,29 @@ fn code_of(z: Sizes, marks: &[u8]) -> u8
 
 // ---- Checks
 
-// The number of a call that is refused before its flags are counted, and 0 of one that is not.
-fn check(blocks: u32, flags: u32, image: &[u8], room: usize) -> Answer
-    ensures { λ r. ⌜ FirstAnswer (early-checks (base blocks) blocks flags (now (image .entry)) room) (result-of r) ⌝ }
+// The number of a call that is refused before its flags are counted, and of one that is not 0 and whether a cell is lost.
+fn check(blocks: u32, flags: u32, image: &[u8], room: usize) -> Checked
+    ensures first { λ r. ⌜ FirstAnswer (early-checks read-values (base blocks) blocks flags (now (image .entry)) room) (result-of (r .answer)) ⌝ }
+    ensures told { λ r. ⌜ (r .answer .number ≡ 0 → LostTold (now (image .entry)) (r .lost)) ⌝ }
 {
     let size = 18 * (8 * blocks as usize + 15);
-    let first = checks::check_image(blocks, image, size, room, size);
+    let seen = checks::check_image(blocks, image, 3, size, room, size);
+    let first = seen.answer;
     if first.number != 0 {
-        return first;
+        return seen;
     }
     if 262144 <= flags {
-        return plain_answer(5, 0);
+        let refused = plain_answer(5, 0);
+        return Checked {
+            answer: refused,
+            lost: false,
+        };
     }
-    plain_answer(0, 0)
+    let passed = plain_answer(0, 0);
+    Checked {
+        answer: passed,
+        lost: seen.lost,
+    }
 }
 
 // ---- Changed cells
@@ -153,27 +212,29 @@ fn count_changes(z: Sizes, marks: &[u8], image: &[u8], out: &[u8]) -> Changes
     Changes { mask, cells: count }
 }
 
-// Copies track number g of the image back.
-fn restore_track(image: &[u8], out: &mut [u8], l: usize, g: usize)
+// Copies track number g of the image back, with `lost` for a lost cell.
+fn restore_track(image: &[u8], out: &mut [u8], l: usize, g: usize, lost: u8)
     requires { ⌜ HasTrack l g (now image) (now out) ⌝ }
-    ensures { λ _. ⌜ TrackBack l g (now (image .entry)) (now (out .entry)) (now (out .exit)) ⌝ }
+    requires { ⌜ Readings (now image) ⌝ }
+    ensures { λ _. ⌜ TrackBack l g (filled lost (now (image .entry))) (now (out .entry)) (now (out .exit)) ⌝ }
 {
     let start = g * l;
     let end = start + l;
-    track::copy_into(&mut out[start..end], &image[start..end]);
+    track::copy_filled(&mut out[start..end], &image[start..end], lost);
 }
 
-// Copies the marked tracks of the image back, of which alone any are changed.
-fn restore(z: Sizes, marks: &[u8], image: &[u8], out: &mut [u8])
-    requires { ⌜ OnlyMarked z (now marks) (now image) (now out) ⌝ }
-    ensures { λ _. ⌜ now (out .exit) ≡ now (image .entry) ⌝ }
+// Copies the marked tracks of the image back, of which alone any are changed, with `lost` for a lost cell.
+fn restore(z: Sizes, marks: &[u8], image: &[u8], out: &mut [u8], lost: u8)
+    requires { ⌜ OnlyMarked z (now marks) (filled lost (now image)) (now out) ⌝ }
+    requires { ⌜ Readings (now image) ⌝ }
+    ensures { λ _. ⌜ now (out .exit) ≡ filled lost (now (image .entry)) ⌝ }
 {
     let l = z.positions + (z.t1 + z.t2 + 1);
     let all = z.t1 + z.t2 + 4;
     let mut g = 0;
     while g < all {
         if marks[g] == 1 {
-            restore_track(image, out, l, g);
+            restore_track(image, out, l, g, lost);
         }
         g += 1;
     }
@@ -216,17 +277,19 @@ fn answer_of(z: Sizes, marks: &[u8], image: &[u8], out: &[u8], a: usize, b: usiz
 
 // ---- One set of flags
 
-// Solves a copy of the image by the marked tracks. Where there is no good record the output is the image again.
-fn work(z: Sizes, marks: &[u8], image: &[u8], out: &mut [u8], syn: &mut [u8]) -> bool
-    requires { ⌜ Workable z (now marks) (now image) (now out) (now syn) ⌝ }
-    ensures { λ r. ⌜ Worked (shape z) (marked (shape z) (now (marks .entry))) (now (image .entry)) (now (out .exit)) r ⌝ }
+// Solves a working copy of the image, in which a lost cell is 0, by the marked tracks. Where there is no good record the output is the
+// image again, with `lost` for a lost cell.
+fn work(z: Sizes, marks: &[u8], image: &[u8], out: &mut [u8], syn: &mut [u8], lost: u8) -> bool
+    requires { ⌜ Workable z (now marks) (filled 0 (now image)) (filled lost (now image)) (now out) (now syn) ⌝ }
+    requires { ⌜ Readings (now image) ⌝ }
+    ensures { λ r. ⌜ Worked (shape z) (marked (shape z) (now (marks .entry))) (filled 0 (now (image .entry))) (filled lost (now (image .entry))) (now (out .exit)) r ⌝ }
 {
     let a = solver::make_plan(marks, z, 0);
     let b = solver::make_plan(marks, z, 1);
     if solver::solve(out, syn, z, a, b) {
         return true;
     }
-    restore(z, marks, image, out);
+    restore(z, marks, image, out, lost);
     false
 }
 
@@ -236,11 +299,11 @@ fn repair_record(z: Sizes, marks: [u8; 18], image: &[u8], out: &mut [u8]) -> Ans
     ensures { λ r. ⌜ Repairs (shape z) (whole (marked (shape z) marks)) (now (image .entry)) (now (out .entry)) (result-of r) (now (out .exit)) ⌝ }
 {
     let l = z.positions + (z.t1 + z.t2 + 1);
-    track::copy_into(out, image);
+    track::copy_filled(out, image, 0);
     let mut room = [0u8; 8252];
     let syn = &mut room[..4 * l];
-    syndrome::syndromes(image, z, syn);
-    if work(z, &marks, image, out, syn) {
+    syndrome::syndromes(out, z, syn);
+    if work(z, &marks, image, out, syn, 2) {
         return answer_of(z, &marks, image, out, 0, 0);
     }
     plain_answer(7, 0)
@@ -250,7 +313,8 @@ fn repair_record(z: Sizes, marks: [u8; 18], image: &[u8], out: &mut [u8]) -> Ans
 pub fn repair(blocks: u32, flags: u32, image: &[u8], out: &mut [u8]) -> Answer
     ensures { λ r. ⌜ Repaired blocks flags (now (image .entry)) (now (out .entry)) (result-of r) (now (out .exit)) ⌝ }
 {
-    let refused = check(blocks, flags, image, out.len());
+    let seen = check(blocks, flags, image, out.len());
+    let refused = seen.answer;
     if refused.number != 0 {
         return refused;
     }
@@ -260,7 +324,8 @@ pub fn repair(blocks: u32, flags: u32, image: &[u8], out: &mut [u8]) -> Answer
         t2: 7,
         positions: 8 * n,
     };
-    let marks = marks_of(flags);
+    let word = marks_of(flags);
+    let marks = mark_lost(z, word, image, seen.lost);
     let code = code_of(z, &marks);
     if code == 0 {
         return plain_answer(6, 0);
@@ -362,18 +427,19 @@ fn try_choice(
     a: usize,
     b: usize,
 ) -> bool
-    requires { ⌜ Traceable z code marks (now image) (now first) ⌝ }
-    requires { ⌜ now out ≡ now image ⌝ }
+    requires { ⌜ Traceable z code marks (filled 0 (now image)) (now first) ⌝ }
+    requires { ⌜ Readings (now image) ⌝ }
+    requires { ⌜ now out ≡ filled 0 (now image) ⌝ }
     requires { ⌜ length (now syn) ≡ length (now first) ⌝ }
     requires { ⌜ IsChoice z a b ⌝ }
-    ensures { λ r. ⌜ Tried (shape z) code (marked (shape z) marks) (now (image .entry)) (choice-at a b) (now (out .exit)) r ⌝ }
+    ensures { λ r. ⌜ Tried (shape z) code (marked (shape z) marks) (filled 0 (now (image .entry))) (choice-at a b) (now (out .exit)) r ⌝ }
 {
     if !allows(z, code, marks, a, b) {
         return false;
     }
     let wide = widen(z, marks, a, b);
     track::copy_into(syn, first);
-    work(z, &wide, image, out, syn)
+    work(z, &wide, image, out, syn, 0)
 }
 
 // Tries the choices one after the other, up to one that fits.
@@ -386,10 +452,11 @@ fn search(
     first: &[u8],
     syn: &mut [u8],
 ) -> Hit
-    requires { ⌜ Traceable z code marks (now image) (now first) ⌝ }
-    requires { ⌜ now out ≡ now image ⌝ }
+    requires { ⌜ Traceable z code marks (filled 0 (now image)) (now first) ⌝ }
+    requires { ⌜ Readings (now image) ⌝ }
+    requires { ⌜ now out ≡ filled 0 (now image) ⌝ }
     requires { ⌜ length (now syn) ≡ length (now first) ⌝ }
-    ensures { λ r. ⌜ Searched z code (marked (shape z) marks) (now (image .entry)) (now (out .exit)) r ⌝ }
+    ensures { λ r. ⌜ Searched z code (marked (shape z) marks) (filled 0 (now (image .entry))) (now (out .exit)) r ⌝ }
 {
     let in_a = z.t1 + 2;
     let in_b = z.t2 + 2;
@@ -417,14 +484,15 @@ fn trace_record(z: Sizes, code: u8, marks: [u8; 18], image: &[u8], out: &mut [u8
     ensures { λ r. ⌜ Traces (shape z) code (marked (shape z) marks) (now (image .entry)) (now (out .entry)) (result-of r) (now (out .exit)) ⌝ }
 {
     let l = z.positions + (z.t1 + z.t2 + 1);
-    track::copy_into(out, image);
+    track::copy_filled(out, image, 0);
     let mut room = [0u8; 8252];
     let mut spare = [0u8; 8252];
     let first = &mut room[..4 * l];
     let syn = &mut spare[..4 * l];
-    syndrome::syndromes(image, z, first);
+    syndrome::syndromes(out, z, first);
     let hit = search(z, code, marks, image, out, first, syn);
     if !hit.found {
+        restore(z, &marks, image, out, 2);
         return plain_answer(7, 0);
     }
     let wide = widen(z, marks, hit.a, hit.b);
@@ -435,7 +503,8 @@ fn trace_record(z: Sizes, code: u8, marks: [u8; 18], image: &[u8], out: &mut [u8
 pub fn trace(blocks: u32, flags: u32, image: &[u8], out: &mut [u8]) -> Answer
     ensures { λ r. ⌜ Traced blocks flags (now (image .entry)) (now (out .entry)) (result-of r) (now (out .exit)) ⌝ }
 {
-    let refused = check(blocks, flags, image, out.len());
+    let seen = check(blocks, flags, image, out.len());
+    let refused = seen.answer;
     if refused.number != 0 {
         return refused;
     }
@@ -445,7 +514,8 @@ pub fn trace(blocks: u32, flags: u32, image: &[u8], out: &mut [u8]) -> Answer
         t2: 7,
         positions: 8 * n,
     };
-    let marks = marks_of(flags);
+    let word = marks_of(flags);
+    let marks = mark_lost(z, word, image, seen.lost);
     let code = code_of(z, &marks);
     if code == 0 {
         return plain_answer(6, 0);

@@ -1,9 +1,10 @@
 //! The comparison of the archive with document 01's examples and with the second decoder, in classes of inputs: each
-//! takes its generator, the number of rounds and the tally. The last three classes are those of packing and unpacking.
+//! takes its generator, the number of rounds and the tally. The last three classes are those of packing and unpacking,
+//! the seven before them those of lost cells.
 
-use crate::damage::{damage, Random};
-use crate::ffi::{Answer, Call};
-use crate::second::{base, code, expected, number, Rules, Shape};
+use crate::damage::{damage, lose, Random};
+use crate::ffi::{Answer, Call, LOST};
+use crate::second::{base, changed, code, expected, extra, number, Rules, Shape};
 
 /// The answers that there are: 0 and the numbers.
 pub const ANSWERS: usize = 9;
@@ -22,7 +23,7 @@ pub const CALLS: [(&str, &[usize]); 6] = [
 pub type Class = fn(&mut Random, u64, &mut Tally);
 
 /// The classes, by the name that their generator has too.
-pub const CLASSES: [(&str, Class); 11] = [
+pub const CLASSES: [(&str, Class); 18] = [
     ("examples", examples),
     ("every_block_count", every_block_count),
     ("damaged_records", damaged_records),
@@ -31,6 +32,13 @@ pub const CLASSES: [(&str, Class); 11] = [
     ("all_flag_words", all_flag_words),
     ("lengths_and_cells", lengths_and_cells),
     ("too_many_is_too_many", too_many_is_too_many),
+    ("lost_cells", lost_cells),
+    ("lost_limits", lost_limits),
+    ("lost_noise", lost_noise),
+    ("lost_and_bad_cells", lost_and_bad_cells),
+    ("every_lost_cell", every_lost_cell),
+    ("all_lost_words", all_lost_words),
+    ("lost_in_every_count", lost_in_every_count),
     ("packed_and_back", packed_and_back),
     ("padding", padding),
     ("packed_lengths", packed_lengths),
@@ -121,6 +129,62 @@ impl Tally {
         let flags = some_flags(random, shape, tracks);
         self.decode(random, blocks, flags, &image);
     }
+
+    /// An image with lost cells, packed and decoded.
+    fn lost(&mut self, random: &mut Random, blocks: u32, flags: u32, image: &[u8]) {
+        let room = Shape::base(blocks).packed_size() + random.below(20);
+        self.compare(random, Call::Pack, blocks, image, room);
+        self.decode(random, blocks, flags, image);
+    }
+
+    /// A record with lost cells, few enough beside the flags, repaired and traced: the lost cells are the changed ones.
+    fn filled(&mut self, random: &mut Random, blocks: u32, flags: u32, record: &[u8], image: &[u8]) {
+        let (mask, cells) = changed(Shape::base(blocks), record, image);
+        assert_eq!(cells as usize, image.iter().filter(|&&x| x == LOST).count());
+        for call in [Call::Repair(flags), Call::Trace(flags)] {
+            let (answer, out) = self.compare(random, call, blocks, image, image.len());
+            assert_eq!(answer, Answer { mask, cells, ..number(0, 0) }, "{call:?}, blocks {blocks}");
+            assert!(out == record, "{call:?}, blocks {blocks}");
+        }
+    }
+
+    /// A record with so many damaged tracks of A and of B that are flagged, or have lost cells, or both, and so many
+    /// that are neither. Tracing goes by the table for the first, and names the others alone.
+    fn limit(&mut self, random: &mut Random, wide: [usize; 2], extras: [usize; 2]) {
+        let blocks = 1 + random.below(12) as u32;
+        let shape = Shape::base(blocks);
+        let [a, b] = [0, 1].map(|set| tracks_of(random, shape, set, wide[set], 0));
+        let outside = [0, 1].map(|set| tracks_of(random, shape, set, extras[set], a | b));
+        let lost = (a | b) & random.next() as u32;
+        let flags = (a | b) & (!lost | random.next() as u32);
+        let record = self.record(random, blocks);
+        let mut image = record.clone();
+        damage(random, shape, &mut image, a | b | outside[0] | outside[1]);
+        lose(random, shape, &mut image, lost);
+        self.lost(random, blocks, flags, &image);
+        let (answer, out) = self.compare(random, Call::Trace(flags), blocks, &image, image.len());
+        let code = code(shape, a | b);
+        if code == 0 {
+            assert_eq!(answer, number(6, 0), "flags {flags:#x}, lost {lost:#x}");
+        } else if in_reach(code, extras) {
+            let (mask, cells) = changed(shape, &image, &record);
+            let [extra_a, extra_b] = outside.map(|word| extra(word & mask));
+            let wanted = Answer { mask, cells, extra_a, extra_b, ..number(0, 0) };
+            assert_eq!(answer, wanted, "flags {flags:#x}, lost {lost:#x}");
+            assert!(out == record, "flags {flags:#x}, lost {lost:#x}");
+        }
+    }
+}
+
+/// Does a code, not 0, allow so many extras of A and of B?
+fn in_reach(code: u32, extras: [usize; 2]) -> bool {
+    match (code, extras) {
+        (5, _) | (_, [0, 0]) => true,
+        (4, [a, b]) => a + b == 1,
+        (3, [a, _]) => a == 0,
+        (2, [_, b]) => b == 0,
+        _ => false,
+    }
 }
 
 /// Up to so many tracks.
@@ -159,10 +223,36 @@ fn some_counts(random: &mut Random) -> (u32, u32) {
     (near, blocks)
 }
 
-/// Up to two cells of any value above 1.
-fn bad_cells(random: &mut Random, image: &mut [u8]) {
+/// Tracks that lose cells: up to four, some of tracks 0 and 8 of both sets, or all.
+fn some_lost(random: &mut Random, shape: Shape) -> u32 {
+    match random.below(16) {
+        0 => shape.word(0) | shape.word(1),
+        1 | 2 => (1 | 1 << 8 | 1 << 9 | 1 << 17) & random.next() as u32,
+        _ => some_tracks(random, shape, 4),
+    }
+}
+
+/// So many tracks of a set that are none of these.
+fn tracks_of(random: &mut Random, shape: Shape, set: usize, count: usize, others: u32) -> u32 {
+    let mut word: u32 = 0;
+    while (word.count_ones() as usize) < count {
+        word |= 1 << shape.track_number(set, random.below(shape.tracks(set))) & !others;
+    }
+    word
+}
+
+/// A value from this up: in one of two cases this one.
+fn some_value(random: &mut Random, least: u8) -> u8 {
+    match random.below(2) {
+        0 => least,
+        _ => least + random.below(256 - least as usize) as u8,
+    }
+}
+
+/// Up to two cells of any value from this up.
+fn bad_cells(random: &mut Random, image: &mut [u8], least: u8) {
     for _ in 0..random.below(6).saturating_sub(3) {
-        image[random.below(image.len())] = 2 + random.below(254) as u8;
+        image[random.below(image.len())] = some_value(random, least);
     }
 }
 
@@ -254,13 +344,17 @@ pub fn examples(random: &mut Random, _: u64, tally: &mut Tally) {
     }
     let large = vec![0u8; 37_134];
     assert_eq!(gives(Call::Repair(0), 256, &large, number(0, 0)), large);
-    // Cell value 2 first at index 40.
+    // Cell value 3 first at index 40, and value 2, which only packing refuses, at 30.
     let mut image = zero;
-    image[40] = 2;
+    image[40] = 3;
     image[300] = 255;
-    gives(Call::Read, 1, &image, number(4, 40));
-    gives(Call::Repair(0), 1, &image, number(4, 40));
-    gives(Call::Trace(0), 1, &image, number(4, 40));
+    for (value, detail) in [(0, 40), (LOST, 30)] {
+        image[30] = value;
+        gives(Call::Read, 1, &image, number(4, 40));
+        gives(Call::Repair(0), 1, &image, number(4, 40));
+        gives(Call::Trace(0), 1, &image, number(4, 40));
+        gives(Call::Pack, 1, &image, number(4, detail));
+    }
 }
 
 /// Every block count, once for 2400 rounds: three damaged tracks that are flagged.
@@ -339,7 +433,11 @@ pub fn lengths_and_cells(random: &mut Random, rounds: u64, tally: &mut Tally) {
                 if random.below(2) == 0 {
                     damage(random, rules.shape, &mut input, tracks);
                 }
-                bad_cells(random, &mut input);
+                if random.below(4) == 0 {
+                    let lost = some_lost(random, rules.shape);
+                    lose(random, rules.shape, &mut input, lost);
+                }
+                bad_cells(random, &mut input, 3);
             }
             some_length(random, &mut input);
             let room = some_room(random, result);
@@ -348,20 +446,142 @@ pub fn lengths_and_cells(random: &mut Random, rounds: u64, tally: &mut Tally) {
     }
 }
 
-/// 6 is given where two good records agree off the flags, and from four blocks up nowhere else.
+/// 6 is given where two good records agree off the flags, and from four blocks up nowhere else. In one of two rounds
+/// some of the tracks have lost cells instead of their flags.
 pub fn too_many_is_too_many(random: &mut Random, rounds: u64, tally: &mut Tally) {
     for blocks in [1, 2, 4] {
         let rules = base(blocks);
         for _ in 0..rounds / 30 {
             let mut image = tally.record(random, blocks);
-            let flags = some_tracks(random, rules.shape, 6);
-            damage(random, rules.shape, &mut image, flags);
-            let doubt = rules.doubt(&rules.flagged(flags)) > 0;
-            let too_many = doubt || blocks < 4 && code(rules.shape, flags) == 0;
-            for call in [Call::Repair(flags), Call::Trace(flags)] {
+            let wide = some_tracks(random, rules.shape, 6);
+            damage(random, rules.shape, &mut image, wide);
+            let lost = if random.below(2) == 0 { 0 } else { wide & random.next() as u32 };
+            lose(random, rules.shape, &mut image, lost);
+            let doubt = rules.doubt(&rules.flagged(wide)) > 0;
+            let too_many = doubt || blocks < 4 && code(rules.shape, wide) == 0;
+            for call in [Call::Repair(wide & !lost), Call::Trace(wide & !lost)] {
                 let (answer, _) = tally.compare(random, call, blocks, &image, image.len());
                 assert_eq!(answer.answer, if too_many { 6 } else { 0 }, "{call:?}, blocks {blocks}");
             }
+        }
+    }
+}
+
+/// Records with lost cells, up to two damaged tracks and all kinds of flags: of 1 to 12 blocks, and of 200 to 256 in
+/// one round of 60.
+pub fn lost_cells(random: &mut Random, rounds: u64, tally: &mut Tally) {
+    for _ in 0..rounds {
+        let blocks = if random.below(60) == 0 { 200 + random.below(57) } else { 1 + random.below(12) } as u32;
+        let shape = Shape::base(blocks);
+        let mut image = tally.record(random, blocks);
+        let damaged = some_tracks(random, shape, 2);
+        let lost = some_lost(random, shape);
+        damage(random, shape, &mut image, damaged);
+        lose(random, shape, &mut image, lost);
+        let flags = some_flags(random, shape, damaged | lost);
+        tally.lost(random, blocks, flags, &image);
+    }
+}
+
+/// Every number of tracks of A and of B, up to five in all, that are flagged, or have lost cells, or both, and every
+/// number of extras.
+pub fn lost_limits(random: &mut Random, rounds: u64, tally: &mut Tally) {
+    for _ in 0..rounds / 80 {
+        for (a, b) in (0..6).flat_map(|a| (0..6 - a).map(move |b| (a, b))) {
+            for extras in [[0, 0], [1, 0], [0, 1], [1, 1]] {
+                tally.limit(random, [a, b], extras);
+            }
+        }
+    }
+}
+
+/// Images that are no record at all, with lost cells and every kind of flags.
+pub fn lost_noise(random: &mut Random, rounds: u64, tally: &mut Tally) {
+    for _ in 0..rounds {
+        let blocks = 1 + random.below(12) as u32;
+        let shape = Shape::base(blocks);
+        let mut image: Vec<u8> = random.bytes(shape.size()).iter().map(|x| x & 1).collect();
+        let lost = some_lost(random, shape);
+        lose(random, shape, &mut image, lost);
+        let flags = some_flags(random, shape, lost);
+        tally.lost(random, blocks, flags, &image);
+    }
+}
+
+/// Images with lost cells and with one or two of a value that is no cell's, before them and behind: the detail is the
+/// first of these, for packing the first of all.
+pub fn lost_and_bad_cells(random: &mut Random, rounds: u64, tally: &mut Tally) {
+    for _ in 0..rounds {
+        let blocks = 1 + random.below(12) as u32;
+        let rules = base(blocks);
+        let mut image = some_image(random, rules);
+        let lost = some_lost(random, rules.shape);
+        lose(random, rules.shape, &mut image, lost);
+        for _ in 0..1 + random.below(2) {
+            image[random.below(rules.shape.size())] = some_value(random, 3);
+        }
+        let flags = some_flags(random, rules.shape, lost);
+        let first = |most: u8| image.iter().position(|&x| x > most).unwrap() as u32;
+        for (call, most) in [(Call::Read, 2), (Call::Repair(flags), 2), (Call::Trace(flags), 2), (Call::Pack, 1)] {
+            let (answer, _) = tally.compare(random, call, blocks, &image, image.len());
+            assert_eq!(answer, number(4, first(most)), "{call:?}, blocks {blocks}");
+        }
+    }
+}
+
+/// One block, a record and that of zeros: every value of a cell, and each cell lost alone, with no flags, with its own
+/// track flagged and with any.
+pub fn every_lost_cell(random: &mut Random, _: u64, tally: &mut Tally) {
+    let record = tally.record(random, 1);
+    for record in [vec![0; record.len()], record] {
+        for value in 0..=255 {
+            let mut image = record.clone();
+            image[random.below(record.len())] = value;
+            tally.lost(random, 1, 0, &image);
+        }
+        for cell in 0..record.len() {
+            let mut image = record.clone();
+            image[cell] = LOST;
+            tally.lost(random, 1, 0, &image);
+            for flags in [0, 1 << (cell / 23), 1 << random.below(18)] {
+                tally.filled(random, 1, flags, &record, &image);
+            }
+        }
+    }
+}
+
+/// One block: a lost cell in each track of every word of up to five tracks, and of all.
+pub fn all_lost_words(random: &mut Random, _: u64, tally: &mut Tally) {
+    let shape = Shape::base(1);
+    let record = tally.record(random, 1);
+    let up_to_five = (0..1u32 << 18).filter(|word| word.count_ones() <= 5);
+    for word in up_to_five.chain([(1 << 18) - 1]) {
+        let mut image = record.clone();
+        for g in (0..18).filter(|g| word >> g & 1 == 1) {
+            image[g * shape.length() + random.below(shape.length())] = LOST;
+        }
+        if code(shape, word) != 0 {
+            tally.filled(random, 1, 0, &record, &image);
+            continue;
+        }
+        for call in [Call::Repair(0), Call::Trace(0)] {
+            let (answer, _) = tally.compare(random, call, 1, &image, image.len());
+            assert_eq!(answer, number(6, 0), "{call:?}, lost {word:#x}");
+        }
+    }
+}
+
+/// Every block count, once for 2400 rounds: lost cells in two tracks of each set, among them the image's last cell.
+pub fn lost_in_every_count(random: &mut Random, rounds: u64, tally: &mut Tally) {
+    for _ in 0..rounds.div_ceil(2400) {
+        for blocks in 1..=256 {
+            let shape = Shape::base(blocks);
+            let record = tally.record(random, blocks);
+            let mut image = record.clone();
+            let lost = tracks_of(random, shape, 0, 2, 0) | tracks_of(random, shape, 1, 1, 1 << 17);
+            lose(random, shape, &mut image, lost);
+            image[shape.size() - 1] = LOST;
+            tally.filled(random, blocks, 0, &record, &image);
         }
     }
 }
@@ -414,7 +634,7 @@ pub fn packed_lengths(random: &mut Random, rounds: u64, tally: &mut Tally) {
         }
         let rules = base(near);
         let mut image = some_image(random, rules);
-        bad_cells(random, &mut image);
+        bad_cells(random, &mut image, 2);
         let places = match random.below(6) {
             0 => random.next() as u32,
             1 | 2 => 1 << random.below(18),

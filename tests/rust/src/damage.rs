@@ -1,6 +1,7 @@
 //! A small generator of random numbers, random records, and the damage that a drive does.
 //! Longer runs: AXP_ROUNDS=5000 (rounds a test) and AXP_SEED=7 (the seed; it is printed).
 
+use crate::ffi::LOST;
 use crate::second::{encode, Rules, Shape};
 
 fn setting(name: &str, default: u64) -> u64 {
@@ -86,6 +87,30 @@ pub fn damage(random: &mut Random, shape: Shape, image: &mut [u8], tracks: u32) 
         for m in from..to {
             if all || random.below(2) == 1 {
                 image[g * length + m] ^= 1;
+            }
+        }
+    }
+}
+
+/// Loses cells of the tracks of a word, all or some of: the whole track, the tail, a burst, the first cell, the last,
+/// or another. At least one of each track is lost. Damage comes before it.
+pub fn lose(random: &mut Random, shape: Shape, image: &mut [u8], tracks: u32) {
+    let length = shape.length();
+    for g in (0..shape.all_tracks()).filter(|g| tracks >> g & 1 == 1) {
+        let at = random.below(length);
+        let (from, to) = match random.below(6) {
+            0 => (0, length),
+            1 => (shape.positions, length),
+            2 => (at, (at + 1 + random.below(40)).min(length)),
+            3 => (0, 1),
+            4 => (length - 1, length),
+            _ => (at, at + 1),
+        };
+        let all = random.below(2) == 0;
+        let one = from + random.below(to - from);
+        for m in from..to {
+            if all || m == one || random.below(2) == 0 {
+                image[g * length + m] = LOST;
             }
         }
     }

@@ -15,6 +15,9 @@ pub struct Answer {
 /// `AXP_NO_EXTRA`.
 pub const NO_EXTRA: u32 = u32::MAX;
 
+/// `AXP_LOST`.
+pub const LOST: u8 = 2;
+
 extern "C" {
     fn axp_encode(blocks: u32, payload: *const u8, payload_len: usize, out: *mut u8, out_len: usize) -> Answer;
     fn axp_read(blocks: u32, image: *const u8, image_len: usize, out: *mut u8, out_len: usize) -> Answer;

@@ -1,9 +1,10 @@
 //! The second decoder, from document 01's rules and in another way than the library: all rules are written out as
 //! equations over cell indices, for any shape of record, and unknown cells are found by peeling (an equation with one
 //! unknown cell gives it) and, where that stalls, by elimination, which also tells whether there are two solutions.
-//! Packing is document 02's note 1, bit after bit.
+//! Packing is document 02's note 1, bit after bit. Cells that a drive could not read are its note 2: `reading` alone
+//! tells what a byte of an image is, and the tracks with a lost cell join the flags before anything is looked up.
 
-use crate::ffi::{Answer, Call, NO_EXTRA};
+use crate::ffi::{Answer, Call, LOST, NO_EXTRA};
 use std::sync::OnceLock;
 
 /// The closing of the tail: rule 3 carries the vertical tracks through it, or they are 0 there.
@@ -104,6 +105,35 @@ impl Shape {
         }
         cells
     }
+}
+
+/// What a drive made of a cell.
+#[derive(Clone, Copy, Debug, PartialEq, Eq)]
+pub enum Reading {
+    Zero,
+    One,
+    Lost,
+}
+
+/// The reading of a byte of an image; None where it is that of no cell.
+pub fn reading(byte: u8) -> Option<Reading> {
+    match byte {
+        0 => Some(Reading::Zero),
+        1 => Some(Reading::One),
+        LOST => Some(Reading::Lost),
+        _ => None,
+    }
+}
+
+/// Is a byte that of a cell which was read, as all cells of a good record are?
+pub fn is_bit(byte: u8) -> bool {
+    matches!(reading(byte), Some(Reading::Zero | Reading::One))
+}
+
+/// The word of the tracks with a lost cell.
+pub fn lost_tracks(shape: Shape, image: &[u8]) -> u32 {
+    let is_lost = |track: &[u8]| track.iter().any(|&x| reading(x) == Some(Reading::Lost));
+    image.chunks(shape.length()).enumerate().filter(|(_, track)| is_lost(track)).map(|(g, _)| 1 << g).sum()
 }
 
 /// Lists of indices, kept one after the other.
@@ -223,7 +253,7 @@ impl Rules {
     }
 
     pub fn is_good(&self, image: &[u8]) -> bool {
-        image.iter().all(|&x| x < 2) && (0..self.equations.len()).all(|i| self.sum(i, image) == 0)
+        image.iter().all(|&x| is_bit(x)) && (0..self.equations.len()).all(|i| self.sum(i, image) == 0)
     }
 
     /// The cells of the flagged tracks.
@@ -464,6 +494,12 @@ pub fn changed(shape: Shape, image: &[u8], out: &[u8]) -> (u32, u32) {
     (mask, cells)
 }
 
+/// The extra of a set, by its changed tracks that were not unknown: one at the most.
+pub fn extra(tracks: u32) -> u32 {
+    assert!(tracks.count_ones() <= 1);
+    if tracks == 0 { NO_EXTRA } else { tracks.trailing_zeros() }
+}
+
 /// A number with its detail, no changed cell and no extra.
 pub fn number(answer: u32, detail: u32) -> Answer {
     Answer { answer, detail, mask: 0, cells: 0, extra_a: NO_EXTRA, extra_b: NO_EXTRA }
@@ -496,22 +532,26 @@ pub fn expected(call: Call, blocks: u32, input: &[u8], before: &[u8]) -> (Answer
     if call == Call::Unpack {
         return unpack(shape, input).map_or_else(|| refused(8, 0), |image| result(&image));
     }
-    if let Some(i) = input.iter().position(|&x| x > 1) {
+    // Packing takes no lost cell.
+    let is_cell = |x: u8| if call == Call::Pack { is_bit(x) } else { reading(x).is_some() };
+    if let Some(i) = input.iter().position(|&x| !is_cell(x)) {
         return refused(4, i as u32);
     }
     if call == Call::Pack {
         return result(&pack(shape, input));
     }
     let rules = base(blocks);
-    let (flags, extras) = match call {
-        Call::Repair(flags) => (flags, false),
-        Call::Trace(flags) => (flags, true),
+    let (word, extras) = match call {
+        Call::Repair(word) => (word, false),
+        Call::Trace(word) => (word, true),
         _ if rules.is_good(input) => return result(&payload(shape, input)),
         _ => return refused(7, 0),
     };
-    if flags >> shape.all_tracks() != 0 {
+    if word >> shape.all_tracks() != 0 {
         return refused(5, 0);
     }
+    // A track with a lost cell counts as flagged.
+    let flags = word | lost_tracks(shape, input);
     if code(shape, flags) == 0 {
         return refused(6, 0);
     }
@@ -534,10 +574,6 @@ pub fn reached(rules: &Rules, unknown: &[bool], choices: &[u32], image: &[u8], b
     // The extra of a set: the track with a changed cell that was not unknown.
     let known: Vec<u8> = (0..image.len()).map(|c| if unknown[c] { image[c] } else { record[c] }).collect();
     let (outside, _) = changed(shape, image, &known);
-    let extra = |set: usize| {
-        let word = outside & shape.word(set);
-        assert!(word.count_ones() <= 1);
-        if word == 0 { NO_EXTRA } else { word.trailing_zeros() }
-    };
-    (Answer { answer: 0, detail: 0, mask, cells, extra_a: extra(0), extra_b: extra(1) }, after)
+    let [extra_a, extra_b] = [0, 1].map(|set| extra(outside & shape.word(set)));
+    (Answer { answer: 0, detail: 0, mask, cells, extra_a, extra_b }, after)
 }

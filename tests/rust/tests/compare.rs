@@ -49,6 +49,41 @@ fn too_many_is_too_many() {
 }
 
 #[test]
+fn lost_cells() {
+    compare("lost_cells");
+}
+
+#[test]
+fn lost_limits() {
+    compare("lost_limits");
+}
+
+#[test]
+fn lost_noise() {
+    compare("lost_noise");
+}
+
+#[test]
+fn lost_and_bad_cells() {
+    compare("lost_and_bad_cells");
+}
+
+#[test]
+fn every_lost_cell() {
+    compare("every_lost_cell");
+}
+
+#[test]
+fn all_lost_words() {
+    compare("all_lost_words");
+}
+
+#[test]
+fn lost_in_every_count() {
+    compare("lost_in_every_count");
+}
+
+#[test]
 fn packed_and_back() {
     compare("packed_and_back");
 }

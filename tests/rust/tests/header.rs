@@ -1,6 +1,7 @@
 //! include/axp.h against the Rattle source that it declares, mechanically: the calls with their parameters, the fields of
 //! the result in order, and the constants. Nothing else checks one against the other.
 
+use axp_tests::ffi::LOST;
 use std::fs;
 use std::path::Path;
 
@@ -92,6 +93,7 @@ fn constants() {
     let source = file("crates/axp_c/src/lib.rt");
     let none = between(&source, "pub const NO_EXTRA: u32 = ", ";");
     assert!(header.contains(&format!("#define AXP_NO_EXTRA {none}u")));
+    assert!(header.contains(&format!("#define AXP_LOST {LOST}\n")));
     assert!(header.contains("#define AXP_PACKED_SIZE(n) (AXP_TRACKS * ((size_t)(n) + 2))\n"));
     // The sizes for 256 blocks.
     assert!(header.contains(&format!("#define AXP_MAX_IMAGE_SIZE {}\n", 18 * (8 * 256 + 15))));

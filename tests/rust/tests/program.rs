@@ -1,7 +1,7 @@
 //! The program `axp` on stored inputs: tests/axp/NAME.in and what it must print, NAME.out.
 
 use axp_tests::damage::{damage, Random};
-use axp_tests::ffi::Call;
+use axp_tests::ffi::{Call, LOST};
 use axp_tests::second::{base, expected, Shape};
 use std::collections::HashSet;
 use std::fs;
@@ -18,7 +18,7 @@ fn files(name: &str) -> [PathBuf; 2] {
     ["in", "out"].map(|kind| root().join(format!("tests/axp/{name}.{kind}")))
 }
 
-/// What must be stored, from document 01 and the second decoder: a name, its input and its output.
+/// What must be stored, from documents 01 and 02 and the second decoder: a name, its input and its output.
 fn cases() -> Vec<(&'static str, Vec<u8>, String)> {
     let image = |name: &'static str, blocks: u32, flags: u32, image: &[u8]| {
         let mut input = (blocks as u16).to_be_bytes().to_vec();
@@ -38,12 +38,26 @@ fn cases() -> Vec<(&'static str, Vec<u8>, String)> {
     let mut one = zero.clone();
     one[23] = 1;
     let mut bad = zero.clone();
-    bad[40] = 2;
+    bad[40] = 3;
+    // An image of one block that is 0 but for ones and lost cells, each by its track number and position.
+    let sparse = |ones: &[(usize, usize)], lost: &[(usize, usize)]| {
+        let mut image = vec![0u8; size(1)];
+        ones.iter().for_each(|(g, m)| image[g * 23 + m] = 1);
+        lost.iter().for_each(|(g, m)| image[g * 23 + m] = LOST);
+        image
+    };
+    let mut lost_and_bad = sparse(&[], &[(0, 10), (17, 22)]);
+    lost_and_bad[40] = 3;
     let mut random = Random(5);
     let rules = base(256);
     let (_, mut damaged) = random.record(rules);
     let tracks = 1 << 2 | 1 << 5 | 1 << 9 | 1 << 16;
     damage(&mut random, rules.shape, &mut damaged, tracks);
+    // Lost cells in A1, flagged too, and in A5, the whole track; B6 is flagged and damaged.
+    let (_, mut record) = random.record(base(2));
+    damage(&mut random, Shape::base(2), &mut record, 1 << 1 | 1 << 15);
+    record[31 + 7] = LOST;
+    record[5 * 31..6 * 31].fill(LOST);
     vec![
         image("listing", 1, 0, &one),
         image("count_0", 0, 0, &zero),
@@ -57,6 +71,13 @@ fn cases() -> Vec<(&'static str, Vec<u8>, String)> {
         image("flag_bit", 1, 1 << 18, &zero),
         image("too_many", 1, 15, &zero),
         image("repaired_256", 256, tracks, &damaged),
+        image("lost_repaired", 2, 1 << 1 | 1 << 15, &record),
+        image("lost_zero", 1, 0, &sparse(&[], &[(1, 0), (17, 22)])),
+        image("lost_traced", 1, 0, &sparse(&[(2, 0)], &[(1, 0)])),
+        image("lost_no_record", 1, 0, &sparse(&[(2, 0), (3, 0)], &[(1, 0)])),
+        image("lost_too_many", 1, 3, &sparse(&[], &[(2, 8), (3, 22)])),
+        image("lost_flag_bit", 1, 1 << 18, &sparse(&[], &[(0, 0), (1, 0), (2, 0), (3, 0)])),
+        image("lost_and_cell_value", 1, 0, &lost_and_bad),
         ("short", vec![0, 1, 0, 0, 0], "axp short\n".to_string()),
     ]
 }

@@ -1,9 +1,13 @@
 //! The second decoder against the rules themselves, for other shapes than document 01's: unequal sets, no blocks, open
-//! tails, and unknown cells that are no whole tracks. Its packing against note 1 of document 02, worked out by hand.
+//! tails, and unknown cells that are no whole tracks. Its packing against note 1 of document 02 and its lost cells
+//! against note 2, worked out by hand.
 
-use axp_tests::damage::{rounds, Random};
-use axp_tests::ffi::Call;
-use axp_tests::second::{code, encode, expected, number, pack, payload, unpack, Closing, Rules, Shape};
+use axp_tests::damage::{damage, lose, rounds, Random};
+use axp_tests::ffi::{Answer, Call, LOST};
+use axp_tests::second::{
+    base, choices, code, encode, expected, is_bit, lost_tracks, number, pack, payload, reached, reading, unpack,
+    Closing, Reading, Rules, Shape,
+};
 
 const SIZES: [(usize, usize); 5] = [(1, 1), (1, 7), (7, 3), (3, 2), (7, 7)];
 const CLOSINGS: [Closing; 2] = [Closing::Closed, Closing::Open];
@@ -336,4 +340,158 @@ fn numbers_of_packing() {
     assert!(answer == number(0, 0) && after == [0; 4644]);
     let (answer, after) = expected(Call::Unpack, 256, &[0; 4644], &[9; 37_134]);
     assert!(answer == number(0, 0) && after == [0; 37_134]);
+}
+
+#[test]
+fn readings() {
+    let cells = [Some(Reading::Zero), Some(Reading::One), Some(Reading::Lost)];
+    for byte in 0..=255 {
+        assert_eq!(reading(byte), cells.get(byte as usize).copied().flatten(), "{byte}");
+        assert_eq!(is_bit(byte), byte < 2, "{byte}");
+    }
+    // A good record has no lost cell, whatever its other cells are.
+    let rules = base(1);
+    for cell in 0..414 {
+        let image = bytes(414, &[(cell, LOST)]);
+        assert_eq!(lost_tracks(rules.shape, &image), 1 << (cell / 23), "cell {cell}");
+        assert!(!rules.is_good(&image), "cell {cell}");
+    }
+    assert!(rules.is_good(&[0; 414]) && lost_tracks(rules.shape, &[1; 414]) == 0);
+}
+
+/// A call on one block, on an image that is 0 but for these cells: it answers so, and leaves the record of zeros, or
+/// with 7 the image, or with another number the output as it came.
+fn gives(call: Call, cells: &[(usize, u8)], wanted: Answer) {
+    let image = bytes(414, cells);
+    let after = match (wanted.answer, call) {
+        (0, _) => vec![0; 414],
+        (7, Call::Repair(_) | Call::Trace(_)) => image.clone(),
+        _ => vec![9; 414],
+    };
+    assert_eq!(expected(call, 1, &image, &[9; 415]), (wanted, [&after[..], &[9]].concat()), "{call:?}, {cells:?}");
+}
+
+/// The same of repair and of tracing.
+fn both_give(flags: u32, cells: &[(usize, u8)], wanted: Answer) {
+    gives(Call::Repair(flags), cells, wanted);
+    gives(Call::Trace(flags), cells, wanted);
+}
+
+// One block: A1 begins at 23, A2 at 46, A3 at 69, A4 at 92, B0 at 207, B1 at 230, B3 at 276.
+
+#[test]
+fn lost_examples() {
+    // A lost cell that is filled with 0 counts. Its track is no extra, flagged or not, and is repaired as a whole.
+    let filled = |mask: u32, cells: u32| Answer { mask, cells, ..number(0, 0) };
+    both_give(0, &[(23, 2)], filled(2, 1));
+    both_give(2, &[(23, 2), (45, 1)], filled(2, 2));
+    both_give(0, &[(23, 2), (45, 1)], filled(2, 2));
+    let whole: Vec<(usize, u8)> = (92..115).map(|i| (i, 2)).collect();
+    both_give(0, &whole, filled(16, 23));
+    // A cell of A2 beside one lost in A1: an extra.
+    gives(Call::Repair(0), &[(23, 2), (46, 1)], number(7, 0));
+    gives(Call::Trace(0), &[(23, 2), (46, 1)], Answer { extra_a: 2, ..filled(6, 2) });
+    // Beside two of A, only one of B; beside two and one, none.
+    both_give(0, &[(23, 2), (46, 2), (69, 1)], number(7, 0));
+    gives(Call::Trace(0), &[(23, 2), (46, 2), (276, 1)], Answer { extra_b: 12, ..filled(6 | 1 << 12, 3) });
+    both_give(1 << 10, &[(23, 2), (46, 2), (276, 1)], number(7, 0));
+    // Three and one, two and two; a track that is flagged and has a lost cell is one.
+    both_give(0, &[(23, 2), (46, 2), (69, 2), (207, 2)], filled(526, 4));
+    both_give(526, &[(23, 2), (229, 2)], filled(514, 2));
+    both_give(6, &[(207, 2), (276, 2)], filled(1 << 9 | 1 << 12, 2));
+    // Document 01's record of payload 128 with A(0,1), which is 1, lost.
+    let record = encode(base(1), &[128, 0, 0, 0, 0, 0, 0, 0, 0, 0, 0, 0, 0, 0]);
+    let mut image = record.clone();
+    image[23] = LOST;
+    for call in [Call::Repair(0), Call::Trace(0)] {
+        assert_eq!(expected(call, 1, &image, &[9; 414]), (filled(2, 1), record.clone()), "{call:?}");
+    }
+}
+
+#[test]
+fn numbers_of_lost_cells() {
+    // All cells, four tracks of a set, and three and two.
+    let all: Vec<(usize, u8)> = (0..414).map(|i| (i, 2)).collect();
+    both_give(0, &all, number(6, 0));
+    both_give(0, &[(0, 2), (23, 2), (46, 2), (69, 2)], number(6, 0));
+    both_give(7, &[(69, 2)], number(6, 0));
+    both_give(1 << 9, &[(23, 2), (46, 2), (69, 2), (230, 2)], number(6, 0));
+    // 5 is about the flag word alone, and comes before 6.
+    both_give(1 << 18, &[(0, 2), (23, 2), (46, 2), (69, 2)], number(5, 0));
+    // 4 is about cells above 2, for packing above 1, and comes before both.
+    both_give(1 << 18 | 15, &[(10, 2), (40, 3), (41, 255), (413, 2)], number(4, 40));
+    gives(Call::Read, &[(10, 2), (40, 3), (41, 255)], number(4, 40));
+    gives(Call::Pack, &[(10, 2), (40, 3)], number(4, 10));
+    for call in [Call::Read, Call::Repair(0), Call::Trace(0), Call::Pack] {
+        gives(call, &[(10, 3), (40, 2)], number(4, 10));
+    }
+    gives(Call::Pack, &[(413, 2)], number(4, 413));
+    gives(Call::Read, &[(413, 2)], number(7, 0));
+}
+
+/// A record or noise, with a damaged track or none and lost cells in up to three, and a flag word of up to three.
+fn some_lost(random: &mut Random, rules: &Rules) -> (Vec<u8>, u32) {
+    let (_, mut image) = random.record(rules);
+    if random.below(8) == 0 {
+        image.iter_mut().for_each(|x| *x = random.next() as u8 & 1);
+    }
+    let [damaged, lost, word] = [2, 4, 4].map(|most| {
+        let count = random.below(most);
+        random.tracks(rules.shape, count)
+    });
+    damage(random, rules.shape, &mut image, damaged);
+    lose(random, rules.shape, &mut image, lost);
+    (image, word)
+}
+
+#[test]
+fn lost_cells() {
+    // As flags on an image in which 0 or 1 stands for the lost cells, but for what counts as changed.
+    let mut random = Random::of("lost cells");
+    for _ in 0..rounds(2400) {
+        let blocks = 1 + random.below(3) as u32;
+        let rules = base(blocks);
+        let (image, word) = some_lost(&mut random, rules);
+        let lost: Vec<usize> = (0..image.len()).filter(|&c| image[c] == 2).collect();
+        let wide = lost.iter().fold(word, |wide, c| wide | 1 << (c / rules.shape.length()));
+        let mut bits = image.clone();
+        lost.iter().for_each(|&c| bits[c] = random.below(2) as u8);
+        let before = random.bytes(image.len());
+        for call in [Call::Repair, Call::Trace] {
+            let (answer, out) = expected(call(word), blocks, &image, &before);
+            let (same, record) = expected(call(wide), blocks, &bits, &before);
+            assert_eq!([answer.answer, answer.extra_a, answer.extra_b], [same.answer, same.extra_a, same.extra_b]);
+            match answer.answer {
+                0 => {
+                    let differs = |c: &usize| image[*c] != record[*c];
+                    let mask = lost.iter().fold(same.mask, |mask, c| mask | 1 << (c / rules.shape.length()));
+                    assert_eq!((answer.mask, answer.cells as usize), (mask, (0..image.len()).filter(differs).count()));
+                    assert!(out == record);
+                }
+                7 => assert!(out == image && record == bits),
+                number => assert!(number == 6 && out == before),
+            }
+        }
+    }
+}
+
+#[test]
+fn no_lost_cells() {
+    // Images without one: the flag word decides alone, as it did before note 2.
+    let mut random = Random::of("no lost cells");
+    for _ in 0..rounds(2400) / 2 {
+        let blocks = 1 + random.below(3) as u32;
+        let rules = base(blocks);
+        let (mut image, word) = some_lost(&mut random, rules);
+        image.iter_mut().filter(|x| **x == 2).for_each(|x| *x = 1);
+        let before = random.bytes(image.len());
+        let unknown = rules.flagged(word);
+        for (call, choices) in [(Call::Repair(word), vec![0]), (Call::Trace(word), choices(rules.shape, word))] {
+            let wanted = match code(rules.shape, word) {
+                0 => (number(6, 0), before.clone()),
+                _ => reached(rules, &unknown, &choices, &image, &before),
+            };
+            assert!(expected(call, blocks, &image, &before) == wanted, "{call:?}, blocks {blocks}");
+        }
+    }
 }
