@@ -1,6 +1,7 @@
 -- The calls: their checks, the part of the output that is worked on, and marks in place of flags.
-use mathlib.Core.Path.{_≡_, refl, sym, subst, _∙_}
+use mathlib.Core.Path.{_≡_, refl, sym, ap, subst, _∙_}
 use mathlib.Core.Logic.{_≢_, inl, inr}
+use mathlib.Core.Bool.{Bool, _||_}
 use mathlib.Core.List.{List, [], _∷_, _++_}
 use Prim.Native.Nat.{ℕ, _*_, _≤_}
 use native.Mathlib.Omega.{arith}
@@ -9,6 +10,7 @@ use lib.Seq.{length-take-le}
 use Rattle.code.specs.Record.{TrackSet, base, Shape, tracks, Cells, Same}
 use Rattle.code.specs.Image.{image-size, cells}
 use Rattle.code.specs.Flags.{TrackFlags, CellFlags, whole, word-flags, AgreeOff}
+use Rattle.code.specs.Lost.{read-values, lost-tracks}
 use Rattle.code.specs.Reach.{flags-code, Extra, none}
 use Rattle.code.specs.Numbers.{Check, image-checks, flag-check, reach-check, Passed}
 use Rattle.code.specs.Calls.{
@@ -26,47 +28,48 @@ use Rattle.code.specs.Calls.{
   trace-named,
   Traces,
 }
-use Rattle.code.specs.Contracts.{Repaired, Traced}
+use Rattle.code.specs.Contracts.{call-flags, Repaired, Traced}
 use Rattle.code.specs.Sizes.{Small}
 use Rattle.code.specs.declared.Sizes.{Sizes}
 use Rattle.code.proofs.Changed.{changed-extra-same, mended-same}
 use Rattle.code.proofs.Front.{front-at, front-same, front-stays}
 use Rattle.code.proofs.Linear.{good-same}
+use Rattle.code.proofs.Lost.{none-lost}
 use Rattle.code.proofs.Numbers.{first-after, passed-both}
 use Rattle.solver.specs.Solver.{marked}
 use Rattle.checks.specs.First.{FirstAnswer}
 use Rattle.code.proofs.Accepted.{ImageRight, image-right}
 use Rattle.checks.proofs.Refusing.{refuses-call, passes}
-use Rattle.repair.specs.Steps.{Marks, Given}
+use Rattle.repair.specs.Steps.{Marks, ReadImage, LostMarked, Given}
 use Rattle.repair.proofs.Flagging.{SameFlags, marks-same, code-same, agree-same, reach-same}
 
 -- ## Checks
 
 module _ (sh : Shape) (n word : ℕ) (f : TrackFlags) (image out : List ℕ) (done : Result → List ℕ → Type 0) (r : Result) where
   abbrev early : List {1} Check
-  early = early-checks sh n word image (length out)
+  early = early-checks read-values sh n word image (length out)
 
   -- A number of the first five.
-  pub refused : FirstAnswer early r → r .answer ≢ 0 → Answered (repair-checks sh n word f image out) done out r out
+  pub refused : FirstAnswer early r → r .answer ≢ 0 → Answered (repair-checks read-values sh n word f image out) done out r out
   refused = refuses-call early (reach-check sh f ∷ []) r done out
 
   module _ (p : Passed early) where
     -- 6: the code is 0.
-    pub refused-code : flags-code sh f ≡ 0 → r ≡ plain 6 0 → Answered (repair-checks sh n word f image out) done out r out
+    pub refused-code : flags-code sh f ≡ 0 → r ≡ plain 6 0 → Answered (repair-checks read-values sh n word f image out) done out r out
     refused-code c e = first-after early (reach-check sh f ∷ []) (Refused r out out) (done r out) p (inl (c, record { result = e; output = refl }))
 
     -- Where the code is not 0, what is done is left to say.
-    pub called : flags-code sh f ≢ 0 → (after : List ℕ) → done r after → Answered (repair-checks sh n word f image out) done out r after
+    pub called : flags-code sh f ≢ 0 → (after : List ℕ) → done r after → Answered (repair-checks read-values sh n word f image out) done out r after
     called c after d = first-after early (reach-check sh f ∷ []) (Refused r out after) (done r after) p (inr (c, d))
 
 -- With 0 none of the first five applies.
-pub passed : (sh : Shape) (n word : ℕ) (image : List ℕ) (room : ℕ) (r : Result) → FirstAnswer (early-checks sh n word image room) r → r .answer ≡ 0 →
-    Passed (early-checks sh n word image room)
-passed sh n word image room r = passes (early-checks sh n word image room) r (omega arith)
+pub passed : (sh : Shape) (n word : ℕ) (image : List ℕ) (room : ℕ) (r : Result) → FirstAnswer (early-checks read-values sh n word image room) r → r .answer ≡ 0 →
+    Passed (early-checks read-values sh n word image room)
+passed sh n word image room r = passes (early-checks read-values sh n word image room) r (omega arith)
 
-pub right : (sh : Shape) (n word : ℕ) (image : List ℕ) (room : ℕ) → Passed (early-checks sh n word image room) → ImageRight n (image-size sh) image (image-size sh) room
-right sh n word image room p = image-right n (image-size sh) image (image-size sh) room
-    (passed-both (image-checks n (image-size sh) image (image-size sh) room) (flag-check sh word ∷ []) p .0)
+pub right : (sh : Shape) (n word : ℕ) (image : List ℕ) (room : ℕ) → Passed (early-checks read-values sh n word image room) → ImageRight read-values n (image-size sh) image (image-size sh) room
+right sh n word image room p = image-right read-values n (image-size sh) image (image-size sh) room (omega arith)
+    (passed-both (image-checks read-values n (image-size sh) image (image-size sh) room) (flag-check sh word ∷ []) p .0)
 
 -- The sizes of a call.
 abbrev pub sizes : ℕ → Sizes
@@ -145,27 +148,32 @@ module _ (sh : Shape) (image before : List ℕ) (r : Result) (after : List ℕ) 
         (reach-same sh f g same code (cells sh image)) (reach-same sh g f back code (cells sh image))
         (λ s. changed-extra-same sh _ _ _ _ (own-cells sh image) (own-cells sh after) f g s (same s) (tracks sh s) (omega arith))
 
--- ## The calls of document 01, by the marks of a flag word
+-- ## The calls, by the marks of a flag word and of lost cells
 
-module _ (n word : ℕ) (image : List ℕ) (room : ℕ) (p : Passed (early-checks (base n) n word image room)) where
+module _ (n word : ℕ) (image : List ℕ) (room : ℕ) (p : Passed (early-checks read-values (base n) n word image room)) where
   pub small : Small (sizes n)
   small = record { t1-small = omega arith; t2-small = omega arith; positions-small = omega (arith, right (base n) n word image room p .sizes .few) }
+
+  pub read-image : ReadImage (base n) image
+  read-image = let i = right (base n) n word image room p in record { size = i .sizes .exact; readings = record { reading = i .cells } }
 
   pub has-room : image-size (base n) ≤ room
   has-room = right (base n) n word image room p .sizes .fits
 
-module _ (n word : ℕ) (image out : List ℕ) (p : Passed (early-checks (base n) n word image (length out))) (marks : List ℕ) (m : Marks word marks) where
+module _ (n word : ℕ) (image out : List ℕ) (p : Passed (early-checks read-values (base n) n word image (length out))) (first marks : List ℕ) (m : Marks word first)
+    (lost : LostMarked (base n) first image marks) where
   abbrev by-marks : TrackFlags
   by-marks = marked (base n) marks
 
+  -- The flags of the call.
   abbrev by-word : TrackFlags
-  by-word = word-flags (base n) word
+  by-word = call-flags n word image
 
   abbrev size : ℕ
   size = image-size (base n)
 
   same : SameFlags (base n) by-marks by-word
-  same = marks-same (sizes n) word marks (small n word image (length out) p) m
+  same s t l = lost .flags s t l ∙ ap (λ (b : Bool). b || lost-tracks (base n) (cells (base n) image) s t) (marks-same (sizes n) word first (small n word image (length out) p) m s t l)
 
   code-is : flags-code (base n) by-marks ≡ flags-code (base n) by-word
   code-is = code-same (base n) by-marks by-word same
@@ -176,16 +184,17 @@ module _ (n word : ℕ) (image out : List ℕ) (p : Passed (early-checks (base n
       let i = right (base n) n word image (length out) p in
       record {
         small = small n word image (length out) p;
-        image-is = record { size = i .sizes .exact; bits = i .bits };
+        image-is = read-image n word image (length out) p;
+        covered = λ s t k l b e. none-lost (base n) (word-flags (base n) word) image s t k (sym (same s t l) ∙ e) b;
         out-has = length-take-le size out (i .sizes .fits);
-        marks-size = m .size;
+        marks-size = lost .size;
         coded = c;
       }
 
   module _ (r : Result) where
     -- 6.
     pub too-many : flags-code (base n) by-marks ≡ 0 → r ≡ plain 6 0 → (done : Result → List ℕ → Type 0) →
-        Answered (repair-checks (base n) n word by-word image out) done out r out
+        Answered (repair-checks read-values (base n) n word by-word image out) done out r out
     too-many c e done = refused-code (base n) n word by-word image out done r p (sym code-is ∙ c) e
 
     module _ (code : flags-code (base n) by-marks ≢ 0) (part : List ℕ) (kept : length part ≡ length (take size out)) where

@@ -1,5 +1,5 @@
 -- Whole records: what repair and tracing come to.
-use mathlib.Core.Path.{_≡_, refl, sym, ap, ap₂, _∙_}
+use mathlib.Core.Path.{_≡_, refl, sym, ap, ap₂, subst, _∙_}
 use mathlib.Core.Logic.{inl, inr}
 use mathlib.Core.Bool.{Bool, true, false, _||_}
 use mathlib.Core.List.{List}
@@ -8,18 +8,20 @@ use native.Mathlib.Nat.{zero-add}
 use native.Mathlib.Omega.{arith}
 use lib.Dec.{eqb}
 use lib.ListN.{length, getD, List·getD-eq-default}
-use Rattle.code.specs.Record.{TrackSet, A, B, Shape, tracks, track-length}
+use Rattle.code.specs.Record.{TrackSet, A, B, Shape, tracks, track-length, Cells, Good}
 use Rattle.code.specs.Image.{track-number, image-size, cells}
-use Rattle.code.specs.Flags.{TrackFlags, whole}
-use Rattle.code.specs.Reach.{pick, flags-code, none, extra, is}
-use Rattle.code.specs.Calls.{Result, plain, Stays, changed-in, changed-extra, mended, Repairs, Traces}
+use Rattle.code.specs.Flags.{TrackFlags, whole, AgreeOff}
+use Rattle.code.specs.Reach.{pick, flags-code, none, extra, is, Choice, with-extras}
+use Rattle.code.specs.Calls.{Result, plain, Stays, changed-in, changed-extra, mended, NotFound, Repairs, Traces}
 use Rattle.code.specs.Sizes.{shape}
 use Rattle.code.specs.declared.Sizes.{Sizes}
 use Rattle.code.proofs.Codes.{code-within}
 use Rattle.code.proofs.Masks.{unchanged-in}
 use Rattle.code.proofs.Named.{none-named, one-named}
-use Rattle.track.specs.Track.{Copied}
-use Rattle.syndrome.specs.Syndrome.{Holds, Kept}
+use Rattle.code.proofs.Patterns.{neither}
+use Rattle.track.specs.Track.{filled, Copied}
+use Rattle.track.proofs.Lost.{fill-known, length-filled, filled-at, filled-bits, filled-same}
+use Rattle.syndrome.specs.Syndrome.{Image, Holds, Kept}
 use Rattle.solver.specs.Solver.{marked}
 use Rattle.repair.specs.declared.Hit.{Hit}
 use Rattle.repair.specs.Steps.{
@@ -41,7 +43,7 @@ use Rattle.repair.specs.Steps.{
 use Rattle.repair.proofs.Stretches.{changed-number}
 use Rattle.repair.proofs.Flagging.{agree-same}
 use Rattle.repair.proofs.Choices.{is-other}
-use Rattle.repair.proofs.Working.{copied-all}
+use Rattle.repair.proofs.Working.{copied-all, agree-on}
 
 -- Two outputs of the image's size have no later bytes.
 stays-all : (n : ℕ) (before after : List ℕ) → length before ≡ n → length after ≡ n → Stays n before after
@@ -74,7 +76,7 @@ fits-names z code f image out a b c n = elim [
         changed-in (shape z) (cells (shape z) image) (cells (shape z) out) s t ≡ 0
     off s t l d i = unchanged-in (shape z) _ _ s t (λ m h. n .agree .cell s t m l h (ap₂ _||_ d i))
 
--- ## Repair
+-- ## The working copy
 
 module _ (z : Sizes) (marks image out : List ℕ) (given : Given z marks image out) where
   abbrev sh : Shape
@@ -83,24 +85,75 @@ module _ (z : Sizes) (marks image out : List ℕ) (given : Given z marks image o
   abbrev f : TrackFlags
   f = marked (shape z) marks
 
-  -- The output after it is copied.
-  pub given-copy : (after : List ℕ) → Copied image out after → after ≡ image
-  given-copy after c = copied-all image out after c (given .image-is .size ∙ sym (given .out-has))
+  -- The image with 0 for its lost cells.
+  abbrev known : List ℕ
+  known = filled 0 image
 
-  -- The image with its syndromes.
-  pub given-kept : (syn : List ℕ) → Holds sh (cells sh image) syn → Kept z image syn
-  given-kept syn h = record { small = given .small; image = given .image-is; holds = h }
+  known-size : length known ≡ image-size sh
+  known-size = length-filled 0 image ∙ given .image-is .size
+
+  -- Off the marks, and off more tracks than these, it is the image.
+  known-agree : (g : TrackFlags) → ((s : TrackSet) (t : ℕ) → g s t ≡ false → f s t ≡ false) → AgreeOff sh (whole g) (cells sh image) (cells sh known)
+  known-agree g less = record { cell = λ s t m l b e. sym (filled-at 0 image _ ∙ fill-known 0 _ (given .covered s t m l b (less s t e))) }
+
+  agree-known : (g : TrackFlags) → ((s : TrackSet) (t : ℕ) → g s t ≡ false → f s t ≡ false) → (y : Cells) → AgreeOff sh (whole g) (cells sh image) y →
+      AgreeOff sh (whole g) (cells sh known) y
+  agree-known g less y n = agree-on sh (whole g) (record { cell = λ s t m l b e. sym (known-agree g less .cell s t m l b e) }) n
+
+  -- So it differs from the image, which is put back, in marked tracks alone.
+  pub given-back : (copy : List ℕ) → copy ≡ known → OnlyMarked z marks (filled 2 image) copy
+  given-back copy e = rw (filled-same image, e) (record {
+    small = given .small;
+    marks-size = omega (arith, given .marks-size, given .small);
+    image-has = given .image-is .size;
+    out-has = known-size;
+    agree = known-agree f (λ s t h. h);
+  })
+
+  -- The output after the copy is made.
+  pub given-copy : (after : List ℕ) → Copied known out after → after ≡ known
+  given-copy after c = copied-all known out after c (known-size ∙ sym (given .out-has))
+
+  pub given-image : (copy : List ℕ) → copy ≡ known → Image sh copy
+  given-image copy e = rw e (record { size = known-size; bits = filled-bits image (given .image-is .readings) .bit })
+
+  -- The copy with its syndromes.
+  pub given-kept : (copy syn : List ℕ) → copy ≡ known → Holds sh (cells sh copy) syn → Kept z known syn
+  given-kept copy syn e h = record {
+    small = given .small;
+    image = given-image known refl;
+    holds = subst (λ (xs : List ℕ). Holds sh (cells sh xs) syn) e h;
+  }
+
+  -- ## Repair
 
   -- The marks can be worked with.
-  pub given-workable : (copy syn : List ℕ) → copy ≡ image → Holds sh (cells sh image) syn → Workable z marks image copy syn
+  pub given-workable : (copy syn : List ℕ) → copy ≡ known → Holds sh (cells sh copy) syn → Workable z marks known (filled 2 image) copy syn
   given-workable copy syn e h = record {
-    kept = given-kept syn h;
+    kept = given-kept copy syn e h;
     copy = e;
     marks-size = omega (arith, given .marks-size, given .small);
     within = code-within sh f refl (given .coded);
+    put-back = given-back known refl;
   }
 
-  module _ (after : List ℕ) (r : Bool) (w : Worked sh f image after r) where
+  -- Answer 7: the image is put back.
+  module _ (after : List ℕ) (back : after ≡ filled 2 image) where
+    back-size : length after ≡ image-size sh
+    back-size = ap length (back ∙ filled-same image) ∙ given .image-is .size
+
+    not-found : (near : Cells → Type 0) → ((y : Cells) → Good sh y → near y → ⊥) → (answer : Result) → answer ≡ plain 7 0 → NotFound sh near image out answer after
+    not-found near nothing answer e = record {
+      no-record = nothing;
+      copy = λ i l. ap (λ (xs : List ℕ). getD xs i 0) (back ∙ filled-same image);
+      stays = stays-all (image-size sh) out after (given .out-has) back-size;
+      result = e;
+    }
+
+  module _ (after : List ℕ) (r : Bool) (w : Worked sh f known (filled 2 image) after r) where
+    found-agree : r ≡ true → AgreeOff sh (whole f) (cells sh image) (cells sh after)
+    found-agree h = agree-on sh (whole f) (known-agree f (λ s t e. e)) (w .agree h)
+
     -- Only marked tracks were changed.
     pub worked-only : r ≡ true → OnlyMarked z marks image after
     worked-only h = record {
@@ -108,7 +161,7 @@ module _ (z : Sizes) (marks image out : List ℕ) (given : Given z marks image o
       marks-size = omega (arith, given .marks-size, given .small);
       image-has = given .image-is .size;
       out-has = w .size;
-      agree = w .agree h;
+      agree = found-agree h;
     }
 
     -- Answer 0.
@@ -116,57 +169,61 @@ module _ (z : Sizes) (marks image out : List ℕ) (given : Given z marks image o
     unfolding named-at
     repair-found h answer e = inl (record {
       good = w .good h;
-      reached = w .agree h;
+      reached = found-agree h;
       stays = stays-all (image-size sh) out after (given .out-has) (w .size);
       result = e;
     })
 
-    -- Answer 7.
     pub repair-none : r ≡ false → (answer : Result) → answer ≡ plain 7 0 → Repairs sh (whole f) image out answer after
-    repair-none h answer e = inr (record {
-      no-record = w .no-record h;
-      copy = λ i l. ap (λ (xs : List ℕ). getD xs i 0) (w .back h);
-      stays = stays-all (image-size sh) out after (given .out-has) (w .size);
-      result = e;
-    })
+    repair-none h answer e = inr (not-found after (w .back h) _ (λ y g n. w .no-record h y g (agree-known f (λ s t e. e) y n)) answer e)
 
   -- ## Tracing
 
   module _ (code : ℕ) (code-is : code ≡ flags-code sh f) where
     -- The tracer can work with them.
-    pub given-traceable : (first : List ℕ) → Holds sh (cells sh image) first → Traceable z code marks image first
-    given-traceable first h = record {
-      kept = given-kept first h;
+    pub given-traceable : (copy first : List ℕ) → copy ≡ known → Holds sh (cells sh copy) first → Traceable z code marks known first
+    given-traceable copy first e h = record {
+      kept = given-kept copy first e h;
       marks-size = given .marks-size;
       code-is = code-is;
       coded = λ e. given .coded (sym code-is ∙ e);
     }
 
-    module _ (after : List ℕ) (r : Hit) (w : Searched z code f image after r) where
+    -- Flags with extras are more.
+    more : (e : Choice) (s : TrackSet) (t : ℕ) → with-extras f e s t ≡ false → f s t ≡ false
+    more e s t h = neither (f s t) _ h .0
+
+    module _ (after : List ℕ) (r : Hit) (w : Searched z code f known after r) where
+      abbrev choice : Choice
+      choice = choice-at (r .a) (r .b)
+
+      -- What fits the working copy fits the image.
+      found-fits : r .found ≡ true → Fits sh code f image choice (cells sh after)
+      found-fits h =
+          let n = w .fits h in
+          record { good = n .good; allowed = n .allowed; agree = agree-on sh (whole (with-extras f choice)) (known-agree (with-extras f choice) (more choice)) (n .agree) }
+
       -- Only flagged tracks and extras were changed.
-      pub searched-only : r .found ≡ true → (wide : List ℕ) → Widened sh marks (choice-at (r .a) (r .b)) wide → OnlyMarked z wide image after
+      pub searched-only : r .found ≡ true → (wide : List ℕ) → Widened sh marks choice wide → OnlyMarked z wide image after
       searched-only h wide e = record {
         small = given .small;
         marks-size = omega (arith, e .size, given .marks-size, given .small);
         image-has = given .image-is .size;
         out-has = w .size;
-        agree = agree-same sh _ _ (λ s t l. sym (e .flags s t l)) _ _ (w .fits h .agree);
+        agree = agree-same sh _ _ (λ s t l. sym (e .flags s t l)) _ _ (found-fits h .agree);
       }
 
       -- Answer 0.
       pub trace-found : r .found ≡ true → (answer : Result) → answer ≡ mended-at sh image after (r .a) (r .b) → Traces sh code f image out answer after
-      trace-found h answer e = inl (record {
-        good = w .fits h .good;
-        reached = record { choice = choice-at (r .a) (r .b); allowed = w .fits h .allowed; agree = w .fits h .agree };
-        stays = stays-all (image-size sh) out after (given .out-has) (w .size);
-        result = e ∙ (λ i. mended sh (cells sh image) (cells sh after) (λ s. fits-names z code f image after (r .a) (r .b) (w .is-choice h) (w .fits h) s i));
-      })
+      trace-found h answer e =
+          let n = found-fits h in
+          inl (record {
+            good = n .good;
+            reached = record { choice = choice; allowed = n .allowed; agree = n .agree };
+            stays = stays-all (image-size sh) out after (given .out-has) (w .size);
+            result = e ∙ (λ i. mended sh (cells sh image) (cells sh after) (λ s. fits-names z code f image after (r .a) (r .b) (w .is-choice h) n s i));
+          })
 
-      -- Answer 7.
-      pub trace-none : r .found ≡ false → (answer : Result) → answer ≡ plain 7 0 → Traces sh code f image out answer after
-      trace-none h answer e = inr (record {
-        no-record = w .no-record h;
-        copy = λ i l. ap (λ (xs : List ℕ). getD xs i 0) (w .back h);
-        stays = stays-all (image-size sh) out after (given .out-has) (w .size);
-        result = e;
-      })
+      pub trace-none : r .found ≡ false → (last : List ℕ) → last ≡ filled 2 image → (answer : Result) → answer ≡ plain 7 0 → Traces sh code f image out answer last
+      trace-none h last back answer e = inr (not-found last back _
+          (λ y g n. w .no-record h y g (record { choice = n .choice; allowed = n .allowed; agree = agree-known (with-extras f (n .choice)) (more (n .choice)) y (n .agree) })) answer e)

@@ -5,15 +5,13 @@ use code::Sizes;
 use code::plain_answer;
 use checks::Checked;
 ghost use mathlib.Core.Path.{_≡_};
-ghost use mathlib.Core.Bool.{_||_};
 ghost use Prim.Native.Nat.{_+_, _*_, _≤_};
-ghost use lib.Dec.{eqb};
 ghost use lib.ListN.{length};
 ghost use Rattle.code.specs.Record.{base};
 ghost use Rattle.code.specs.Image.{all-tracks};
 ghost use Rattle.code.specs.Flags.{whole};
 ghost use Rattle.code.specs.Lost.{read-values};
-ghost use Rattle.code.specs.Reach.{size, flags-code};
+ghost use Rattle.code.specs.Reach.{pick, size, flags-code};
 ghost use Rattle.code.specs.Calls.{early-checks, Repairs, Traces};
 ghost use Rattle.code.specs.Contracts.{Repaired, Traced};
 ghost use Rattle.code.specs.Answers.{extra-of, result-of};
@@ -82,7 +80,7 @@ fn track_lost(image: &[u8], l: usize, g: usize) -> bool
 
 // The mark of a track with this mark, which has a lost cell or not.
 fn lost_mark(x: u8, lost: bool) -> u8
-    ensures { λ r. ⌜ eqb r 1 ≡ eqb x 1 || lost ⌝ }
+    ensures { λ r. ⌜ r ≡ pick lost 1 x ⌝ }
 {
     if lost { 1 } else { x }
 }
@@ -428,10 +426,10 @@ fn try_choice(
     b: usize,
 ) -> bool
     requires { ⌜ Traceable z code marks (filled 0 (now image)) (now first) ⌝ }
-    requires { ⌜ Readings (now image) ⌝ }
     requires { ⌜ now out ≡ filled 0 (now image) ⌝ }
     requires { ⌜ length (now syn) ≡ length (now first) ⌝ }
     requires { ⌜ IsChoice z a b ⌝ }
+    requires { ⌜ Readings (now image) ⌝ }
     ensures { λ r. ⌜ Tried (shape z) code (marked (shape z) marks) (filled 0 (now (image .entry))) (choice-at a b) (now (out .exit)) r ⌝ }
 {
     if !allows(z, code, marks, a, b) {
@@ -453,9 +451,9 @@ fn search(
     syn: &mut [u8],
 ) -> Hit
     requires { ⌜ Traceable z code marks (filled 0 (now image)) (now first) ⌝ }
-    requires { ⌜ Readings (now image) ⌝ }
     requires { ⌜ now out ≡ filled 0 (now image) ⌝ }
     requires { ⌜ length (now syn) ≡ length (now first) ⌝ }
+    requires { ⌜ Readings (now image) ⌝ }
     ensures { λ r. ⌜ Searched z code (marked (shape z) marks) (filled 0 (now (image .entry))) (now (out .exit)) r ⌝ }
 {
     let in_a = z.t1 + 2;

@@ -1,18 +1,21 @@
--- `restore`: the loop's invariant is that the first g tracks and those without a mark are the image's.
-use mathlib.Core.Path.{_≡_}
+-- `restore`: the loop's invariant is that the first g tracks and those without a mark are the image's, filled.
+use mathlib.Core.Path.{_≡_, _∙_}
 use mathlib.Core.Logic.{⊎-elim}
 use Prim.Native.Nat.{_+_, _≤_, _-_}
 use native.Mathlib.Omega.{arith}
 use borrow.Author.Needs.{needs}
+use denote.Ref.{now}
+use Rattle.track.specs.Track.{filled}
+use Rattle.track.proofs.Lost.{length-filled}
 use Rattle.repair.proofs.Stretches.{has-track, Restoring, restoring-none, restoring-by, restoring-back, restored}
 use Rattle.repair.proofs.restore.Statement.{statement}
 use Rattle.repair.proofs.restore.Tie as tie
 
 abbrev Inv-loop : tie.InvT-loop
-Inv-loop marks image out₀ l all g₀ out g = (g ≤ all) × Restoring l all marks image out g
+Inv-loop marks image out₀ lost l all g₀ out g = (g ≤ all) × Restoring l all marks (filled lost image) out g
 
 abbrev μ-loop : tie.MeasureT-loop
-μ-loop marks image out₀ l all g₀ out g = all - g
+μ-loop marks image out₀ lost l all g₀ out g = all - g
 
 add-l : tie.Need-add-l Inv-loop μ-loop
 add-l c = search needs
@@ -30,7 +33,7 @@ add-all-2 : tie.Need-add-all-2 Inv-loop μ-loop
 add-all-2 c = search needs
 
 loop-holds : tie.Need-loop-holds Inv-loop μ-loop
-loop-holds c = (search needs, restoring-none _ _ _ _ (c .before .before .before .before .before .before .pre) _ (omega arith))
+loop-holds c = (search needs, restoring-none _ _ _ _ (c .before .before .before .before .before .before .pre .0) _ (omega arith))
 
 shared-slice-read-if1 : tie.Need-shared-slice-read-if1 Inv-loop μ-loop
 shared-slice-read-if1 c = search needs
@@ -38,8 +41,10 @@ shared-slice-read-if1 c = search needs
 restore-track-requires : tie.Need-restore-track-requires Inv-loop μ-loop
 restore-track-requires c κs =
     let l = c .before .before .before .before .loop in
-    let h = has-track _ _ _ _ (c .before .before .before .before .before .before .before .before .before .before .before .pre) (l .g) (omega arith) in
-    record { room = h .room; sizes = l .inv .1 .size }
+    let s = c .before .before .before .before .before .before .before .before .before .before .before in
+    let h = has-track _ _ _ _ (s .pre .0) (l .g) (omega arith) in
+    let e = length-filled (s .args .lost) (now (s .args .image)) in
+    (record { room = rw e at (h .room); sizes = l .inv .1 .size ∙ e }, s .pre .1)
 
 add-g : tie.Need-add-g Inv-loop μ-loop
 add-g c = search needs
@@ -65,7 +70,7 @@ returns c =
     let l = c .before .loop in
     let s = c .before .before .before .before .before .before .before .before in
     let e : l .g ≡ s .args .z .t1 + s .args .z .t2 + 4 = omega arith in
-    restored _ _ _ _ (s .pre) _ (omega arith) _ (rw e at (l .inv .1))
+    restored _ _ _ _ (s .pre .0) _ (omega arith) _ (rw e at (l .inv .1))
 
 pub restore-spec : {M : Type 1} → statement M
 restore-spec =

@@ -1,9 +1,11 @@
--- `trace_record`: the output is a copy of the image and `first` holds its syndromes, so the search finds what is in reach.
-use mathlib.Core.Path.{sym, _∙_}
+-- `trace_record`: the output is the working copy and `first` holds its syndromes, so the search finds what is in reach.
+use mathlib.Core.Path.{sym, ap, _∙_}
 use native.Mathlib.Omega.{arith}
 use borrow.Author.Tests.{not-true, not-false}
+use lib.ListN.{length}
 use lib.Seq.{length-take-le}
-use Rattle.repair.proofs.Records.{given-copy, given-traceable, searched-only, trace-found, trace-none}
+use Rattle.track.proofs.Lost.{length-filled}
+use Rattle.repair.proofs.Records.{given-copy, given-image, given-back, given-traceable, searched-only, trace-found, trace-none}
 use borrow.Author.Needs.{needs}
 use Rattle.repair.proofs.trace_record.Statement.{statement}
 use Rattle.repair.proofs.trace_record.Tie as tie
@@ -17,8 +19,8 @@ add-l-2 c = search needs
 add-l-3 : tie.Need-add-l-3
 add-l-3 c = search needs
 
-copy-into-requires : tie.Need-copy-into-requires
-copy-into-requires c κs = search needs
+copy-filled-requires : tie.Need-copy-filled-requires
+copy-filled-requires c κs = (search needs, c .before .before .before .before .before .pre .0 .image-is .readings)
 
 mul-room : tie.Need-mul-room
 mul-room c = search needs
@@ -39,44 +41,57 @@ slice-aggregate-syn : tie.Need-slice-aggregate-syn
 slice-aggregate-syn c = sym (length-take-le _ _ (omega arith))
 
 syndromes-requires : tie.Need-syndromes-requires
-syndromes-requires c κs = let p = c .before .before .before .before .before .before .before .before .before .before .before .pre .0 in (p .small, (p .image-is, length-take-le _ _ (omega arith)))
+syndromes-requires c κs =
+    let p = c .before .before .before .before .before .before .before .before .before .before .before .before .pre .0 in
+    (p .small, (given-image _ _ _ _ p _ (given-copy _ _ _ _ p _ (c .before .before .before .before .before .before .copy-filled .ensures)), length-take-le _ _ (omega arith)))
 
 search-requires : tie.Need-search-requires
 search-requires c κs =
-    let p = c .before .before .before .before .before .before .before .before .before .before .before .before .before .before .before .before .pre in
+    let p = c .before .before .before .before .before .before .before .before .before .before .before .before .before .before .before .before .before .pre in
     let h = c .before .before .before .before .syndromes .ensures in
-    (given-traceable _ _ _ _ (p .0) _ (p .1) _ h, (given-copy _ _ _ _ (p .0) _ (c .before .before .before .before .before .before .before .before .before .before .copy-into .ensures), length-take-le _ _ (omega arith) ∙ sym (h .size)))
+    let e = given-copy _ _ _ _ (p .0) _ (c .before .before .before .before .before .before .before .before .before .before .before .copy-filled .ensures) in
+    (given-traceable _ _ _ _ (p .0) _ (p .1) _ _ e h, (e, (length-take-le _ _ (omega arith) ∙ sym (h .size), p .0 .image-is .readings)))
+
+slice-aggregate-restore : tie.Need-slice-aggregate-restore
+slice-aggregate-restore c = sym (c .before .before .before .before .before .before .before .before .before .before .before .before .before .before .before .before .before .before .before .before .before .before .before .before .before .pre .0 .marks-size)
+
+restore-requires : tie.Need-restore-requires
+restore-requires c κs =
+    let p = c .before .before .before .before .before .before .before .before .before .before .before .before .before .before .before .before .before .before .before .before .before .before .before .before .before .before .pre .0 in
+    (given-back _ _ _ _ p _ (c .before .before .before .before .before .before .before .before .search .ensures .back (not-true _ (c .before .before .if1 .taken))), p .image-is .readings)
 
 plain-answer-requires : tie.Need-plain-answer-requires
 plain-answer-requires c κs = search needs
 
 same-length : tie.Need-same-length
-same-length c = search needs
+same-length c =
+    let p = c .before .before .before .before .before .before .before .before .before .before .before .before .before .before .before .before .before .before .before .before .before .before .before .before .before .before .before .before .before .before .pre .0 in
+    ap length (c .before .before .before .restore .ensures) ∙ length-filled 2 _ ∙ p .image-is .size ∙ sym (p .out-has)
 
 returns : tie.Need-returns
 returns c =
-    let p = c .before .before .before .before .before .before .before .before .before .before .before .before .before .before .before .before .before .before .before .before .before .before .before .before .pre in
-    trace-none _ _ _ _ (p .0) _ (p .1) _ _ (c .before .before .before .before .before .before .before .search .ensures) (not-true _ (c .before .if1 .taken)) _ (c .plain-answer .ensures)
+    let p = c .before .before .before .before .before .before .before .before .before .before .before .before .before .before .before .before .before .before .before .before .before .before .before .before .before .before .before .before .before .before .pre in
+    trace-none _ _ _ _ (p .0) _ (p .1) _ _ (c .before .before .before .before .before .before .before .before .before .before .before .before .search .ensures) (not-true _ (c .before .before .before .before .before .before .if1 .taken)) _ (c .before .before .before .restore .ensures) _ (c .plain-answer .ensures)
 
 widen-requires : tie.Need-widen-requires
-widen-requires c κs = (c .before .before .before .before .before .before .before .before .before .before .before .before .before .before .before .before .before .before .before .before .before .before .before .pre .0 .marks-size, c .before .before .before .before .before .before .search .ensures .is-choice (not-false _ (c .if1 .left)))
+widen-requires c κs = (c .before .before .before .before .before .before .before .before .before .before .before .before .before .before .before .before .before .before .before .before .before .before .before .before .pre .0 .marks-size, c .before .before .before .before .before .before .search .ensures .is-choice (not-false _ (c .if1 .left)))
 
 slice-aggregate-answer-of : tie.Need-slice-aggregate-answer-of
 slice-aggregate-answer-of c = search needs
 
 answer-of-requires : tie.Need-answer-of-requires
 answer-of-requires c κs =
-    let p = c .before .before .before .before .before .before .before .before .before .before .before .before .before .before .before .before .before .before .before .before .before .before .before .before .before .before .pre in
+    let p = c .before .before .before .before .before .before .before .before .before .before .before .before .before .before .before .before .before .before .before .before .before .before .before .before .before .before .before .pre in
     let h = c .before .before .before .before .before .before .before .before .before .search .ensures in
     let e = not-false _ (c .before .before .before .if1 .left) in
     (searched-only _ _ _ _ (p .0) _ (p .1) _ _ h e _ (c .before .before .widen .ensures), h .is-choice e)
 
 same-length-2 : tie.Need-same-length-2
-same-length-2 c = c .before .before .before .before .before .before .before .before .before .before .search .ensures .size ∙ sym (c .before .before .before .before .before .before .before .before .before .before .before .before .before .before .before .before .before .before .before .before .before .before .before .before .before .before .before .pre .0 .out-has)
+same-length-2 c = c .before .before .before .before .before .before .before .before .before .before .search .ensures .size ∙ sym (c .before .before .before .before .before .before .before .before .before .before .before .before .before .before .before .before .before .before .before .before .before .before .before .before .before .before .before .before .pre .0 .out-has)
 
 returns-2 : tie.Need-returns-2
 returns-2 c =
-    let p = c .before .before .before .before .before .before .before .before .before .before .before .before .before .before .before .before .before .before .before .before .before .before .before .before .before .before .before .pre in
+    let p = c .before .before .before .before .before .before .before .before .before .before .before .before .before .before .before .before .before .before .before .before .before .before .before .before .before .before .before .before .pre in
     trace-found _ _ _ _ (p .0) _ (p .1) _ _ (c .before .before .before .before .before .before .before .before .before .before .search .ensures) (not-false _ (c .before .before .before .before .if1 .left)) _ (c .answer-of .ensures)
 
 pub trace-record-spec : {M : Type 1} → statement M
@@ -86,7 +101,7 @@ trace-record-spec =
     add-l
     add-l-2
     add-l-3
-    copy-into-requires
+    copy-filled-requires
     mul-room
     array-borrow-prefix-room
     slice-aggregate-first
@@ -95,6 +110,8 @@ trace-record-spec =
     slice-aggregate-syn
     syndromes-requires
     search-requires
+    slice-aggregate-restore
+    restore-requires
     plain-answer-requires
     same-length
     returns

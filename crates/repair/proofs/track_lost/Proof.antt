@@ -1,42 +1,33 @@
+-- `track_lost`: a track is its stretch, and the highest byte tells of it.
+use mathlib.Core.Path.{_∙_}
 use borrow.Author.Needs.{needs}
+use Rattle.repair.proofs.Lost.{stretch-reading, stretch-lost}
 use Rattle.repair.proofs.track_lost.Statement.{statement}
 use Rattle.repair.proofs.track_lost.Tie as tie
-use Rattle.repair.proofs.track_lost.Reads as reads
-use Rattle.repair.proofs.track_lost.Lts as lts
-use Rattle.code.proofs.is_lost.Reads as is-lost-reads
-use Rattle.track.proofs.highest.Reads as highest-reads
 
--- src/lib.rt:78:17
 mul-start : tie.Need-mul-start
 mul-start c = search needs
 
--- src/lib.rt:79:15
 add-end : tie.Need-add-end
 add-end c = search needs
 
--- src/lib.rt:80:34
 sub-highest : tie.Need-sub-highest
 sub-highest c = search needs
 
--- src/lib.rt:80:34
 part-highest-start : tie.Need-part-highest-start
 part-highest-start c = search needs
 
--- src/lib.rt:80:34
 part-highest-end : tie.Need-part-highest-end
 part-highest-end c = search needs
 
--- src/lib.rt:80:19
 highest-requires : tie.Need-highest-requires
 highest-requires c κs = search needs
 
--- src/lib.rt:80:5
 is-lost-requires : tie.Need-is-lost-requires
-is-lost-requires c κs = ?
+is-lost-requires c κs = let p = c .before .before .before .pre in stretch-reading _ _ _ (p .0) (p .1) _ (c .highest .ensures)
 
--- src/lib.rt:73:1
 returns : tie.Need-returns
-returns c = ?
+returns c = let p = c .before .before .before .before .pre in c .is-lost .ensures ∙ stretch-lost _ _ _ (p .0) (p .1) _ (c .before .highest .ensures)
 
 pub track-lost-spec : {M : Type 1} → statement M
 track-lost-spec =

@@ -7,7 +7,7 @@ use Rattle.repair.proofs.try_choice.Statement.{statement}
 use Rattle.repair.proofs.try_choice.Tie as tie
 
 allows-requires : tie.Need-allows-requires
-allows-requires c κs = let s = c .before .before .before .before in (s .pre .1 .1 .1, code-le _ _ _ _ _ (s .pre .0))
+allows-requires c κs = let s = c .before .before .before .before in (s .pre .1 .1 .1 .0, code-le _ _ _ _ _ (s .pre .0))
 
 returns : tie.Need-returns
 returns c =
@@ -27,8 +27,8 @@ work-requires : tie.Need-work-requires
 work-requires c κs =
     let s = c .before .before .before .before .before .before .before .before .before .before .before .before .before .before in
     let e = c .before .before .before .before .before .before .before .before in
-    choice-workable _ _ _ _ _ (s .pre .0) _ _ (c .before .before .before .before .before .before .before .widen .ensures) (e .before .allows .ensures .yes-allowed (not-false _ (e .if1 .left))) _ _ (s .pre .1 .0)
-    (copied-all _ _ _ (c .before .before .before .before .before .copy-into .ensures) (sym (s .pre .1 .1 .0)))
+    (choice-workable _ _ _ _ _ (s .pre .0) _ _ (c .before .before .before .before .before .before .before .widen .ensures) (e .before .allows .ensures .yes-allowed (not-false _ (e .if1 .left))) _ _ (s .pre .1 .0)
+    (copied-all _ _ _ (c .before .before .before .before .before .copy-into .ensures) (sym (s .pre .1 .1 .0))), s .pre .1 .1 .1 .1)
 
 same-length : tie.Need-same-length
 same-length c = search needs

@@ -1,0 +1,91 @@
+-- Lost cells: the tracks that have one are marked, and off the marks a working copy is the image.
+use mathlib.Core.Path.{_≡_, refl, sym, ap, _∙_}
+use mathlib.Core.Bool.{Bool, true, false, _||_}
+use mathlib.Core.List.{List}
+use Prim.Native.Nat.{ℕ, zero, suc, _+_, _*_, _-_, _<_, _≤_}
+use native.Mathlib.Omega.{arith}
+use borrow.Rule.Slice.PartMut.{mid-len}
+use lib.Dec.{eqb}
+use lib.ListN.{length, getD, set, take, drop}
+use Rattle.code.specs.Record.{TrackSet, Shape, tracks, track-length}
+use Rattle.code.specs.Image.{track-number, all-tracks, image-size, cells}
+use Rattle.code.specs.Flags.{any}
+use Rattle.code.specs.Lost.{is-lost}
+use Rattle.code.specs.Reach.{pick}
+use Rattle.code.specs.Sizes.{shape, Small}
+use Rattle.code.specs.declared.Sizes.{Sizes}
+use Rattle.code.proofs.Lost.{any-none, bit-known}
+use Rattle.code.proofs.Places.{number-lt}
+use Rattle.track.specs.Track.{Readings, Highest}
+use Rattle.track.proofs.Cells.{Written, written-more}
+use Rattle.track.proofs.Lost.{most-reading, most-lost}
+use Rattle.track.proofs.Parts.{part-at}
+use Rattle.solver.specs.Solver.{marked}
+use Rattle.checks.specs.Lost.{LostTold}
+use Rattle.repair.specs.Steps.{lost-at, LostMarked}
+use Rattle.repair.proofs.Stretches.{part-readings}
+
+-- ## Tracks with a lost cell
+
+any-same : (w : ℕ) (f g : ℕ → Bool) → ((k : ℕ) → k < w → f k ≡ g k) → any w f ≡ any w g
+unfolding any
+any-same zero f g h = refl
+any-same (suc w) f g h = rw (any-same w f g (λ k l. h k (omega arith)), h w (omega arith)) refl
+
+module _ (l g : ℕ) (image : List ℕ) (room : g * l + l ≤ length image) (r : Readings image) (most : ℕ)
+    (h : Highest (take (g * l + l - g * l) (drop (g * l) image)) most) where
+  abbrev stretch : List ℕ
+  stretch = take (g * l + l - g * l) (drop (g * l) image)
+
+  size : length stretch ≡ l
+  size = mid-len (g * l) (g * l + l) image room ∙ omega arith
+
+  at : (m : ℕ) → m < l → getD stretch m 0 ≡ getD image (g * l + m) 0
+  at m b = part-at image (g * l) (g * l + l - g * l) m (omega arith)
+
+  -- The highest byte of its stretch tells of a track.
+  pub stretch-reading : most < 3
+  stretch-reading = most-reading stretch most h (part-readings l g image room r)
+
+  pub stretch-lost : is-lost most ≡ lost-at l image g
+  stretch-lost = most-lost stretch most h (part-readings l g image room r) ∙ rw size (any-same l _ _ (λ m b. ap is-lost (at m b)))
+
+-- ## Marks
+
+-- A mark with that of a lost cell.
+mark-lost : (x : ℕ) (b : Bool) → eqb (pick b 1 x) 1 ≡ eqb x 1 || b
+mark-lost x b = go b (eqb x 1) refl
+  where
+    go : (b c : Bool) → eqb x 1 ≡ c → eqb (pick b 1 x) 1 ≡ c || b
+    go true true e = refl
+    go true false e = refl
+    go false true e = e
+    go false false e = e
+
+-- The first n marks have those of the tracks with a lost cell, and the rest stay.
+abbrev pub Marking : ℕ → List ℕ → List ℕ → ℕ → List ℕ → Type 0
+Marking l image marks n wide = Written marks (λ k. pick (lost-at l image k) 1 (getD marks k 0)) 0 n wide
+
+pub marking-more : (l : ℕ) (image marks : List ℕ) (g : ℕ) (wide : List ℕ) → Marking l image marks g wide → g < length marks →
+    (b : Bool) → b ≡ lost-at l image g → (v : ℕ) → v ≡ pick b 1 (getD wide g 0) → Marking l image marks (g + 1) (set wide g v)
+marking-more l image marks g wide w h b e v is = written-more _ _ 0 g wide g v w (omega arith) h
+    (is ∙ ap (λ (b : Bool). pick b 1 (getD wide g 0)) e ∙ ap (pick (lost-at l image g) 1) (w .later g (omega arith)))
+
+module _ (z : Sizes) (marks image : List ℕ) (small : Small z) (size-is : length marks ≡ 18) where
+  -- Every track is marked that has a lost cell.
+  pub lost-marked : (n : ℕ) → n ≡ all-tracks (shape z) → (wide : List ℕ) → Marking (track-length (shape z)) image marks n wide → LostMarked (shape z) marks image wide
+  lost-marked n e wide w = record {
+    size = w .size ∙ size-is;
+    flags = λ s t l. ap (λ (v : ℕ). eqb v 1) (w .done (track-number (shape z) s t) _ (omega (arith, number-lt (shape z) s t l)) (omega arith)) ∙ mark-lost (getD marks (track-number (shape z) s t) 0) (lost-at (track-length (shape z)) image (track-number (shape z) s t));
+  }
+
+  -- Where no cell is lost there is nothing to mark.
+  pub none-marked : ((i : ℕ) → getD image i 0 < 2) → LostMarked (shape z) marks image marks
+  none-marked bits = record {
+    size = size-is;
+    flags = λ s t l. sym (ap (λ (b : Bool). marked (shape z) marks s t || b) (any-none (track-length (shape z)) _ (λ m b. bit-known _ (bits _))) ∙ or-off _);
+  }
+    where
+      or-off : (a : Bool) → a || false ≡ a
+      or-off false = refl
+      or-off true = refl
