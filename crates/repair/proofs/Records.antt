@@ -10,7 +10,7 @@ use lib.Dec.{eqb}
 use lib.ListN.{length, getD, List·getD-eq-default}
 use Rattle.code.specs.Record.{TrackSet, A, B, Shape, tracks, track-length, Cells, Good}
 use Rattle.code.specs.Image.{track-number, image-size, cells}
-use Rattle.code.specs.Flags.{TrackFlags, whole, AgreeOff}
+use Rattle.code.specs.Flags.{TrackFlags, CellFlags, whole, AgreeOff}
 use Rattle.code.specs.Reach.{pick, flags-code, none, extra, is, Choice, with-extras}
 use Rattle.code.specs.Calls.{Result, plain, Stays, changed-in, changed-extra, mended, NotFound, Repairs, Traces}
 use Rattle.code.specs.Sizes.{shape}
@@ -19,8 +19,8 @@ use Rattle.code.proofs.Codes.{code-within}
 use Rattle.code.proofs.Masks.{unchanged-in}
 use Rattle.code.proofs.Named.{none-named, one-named}
 use Rattle.code.proofs.Patterns.{neither}
-use Rattle.track.specs.Track.{filled, Copied}
-use Rattle.track.proofs.Lost.{fill-known, length-filled, filled-at, filled-bits, filled-same}
+use Rattle.track.specs.Track.{known, Copied}
+use Rattle.track.proofs.Lost.{cell-known, length-known, known-at, known-bits}
 use Rattle.syndrome.specs.Syndrome.{Image, Holds, Kept}
 use Rattle.solver.specs.Solver.{marked}
 use Rattle.repair.specs.declared.Hit.{Hit}
@@ -43,7 +43,7 @@ use Rattle.repair.specs.Steps.{
 use Rattle.repair.proofs.Stretches.{changed-number}
 use Rattle.repair.proofs.Flagging.{agree-same}
 use Rattle.repair.proofs.Choices.{is-other}
-use Rattle.repair.proofs.Working.{copied-all, agree-on}
+use Rattle.repair.proofs.Working.{copied-all}
 
 -- Two outputs of the image's size have no later bytes.
 stays-all : (n : ℕ) (before after : List ℕ) → length before ≡ n → length after ≡ n → Stays n before after
@@ -78,6 +78,10 @@ fits-names z code f image out a b c n = elim [
 
 -- ## The working copy
 
+-- Two agreements, one after the other.
+agree-on : (sh : Shape) (flag : CellFlags) {x y u : Cells} → AgreeOff sh flag x y → AgreeOff sh flag y u → AgreeOff sh flag x u
+agree-on sh flag p q = record { cell = λ s t m l b e. p .cell s t m l b e ∙ q .cell s t m l b e }
+
 module _ (z : Sizes) (marks image out : List ℕ) (given : Given z marks image out) where
   abbrev sh : Shape
   sh = shape z
@@ -85,74 +89,56 @@ module _ (z : Sizes) (marks image out : List ℕ) (given : Given z marks image o
   abbrev f : TrackFlags
   f = marked (shape z) marks
 
-  -- The image with 0 for its lost cells.
-  abbrev known : List ℕ
-  known = filled 0 image
-
-  known-size : length known ≡ image-size sh
-  known-size = length-filled 0 image ∙ given .image-is .size
+  copy-size : length (known image) ≡ image-size sh
+  copy-size = length-known image ∙ given .image-is .size
 
   -- Off the marks, and off more tracks than these, it is the image.
-  known-agree : (g : TrackFlags) → ((s : TrackSet) (t : ℕ) → g s t ≡ false → f s t ≡ false) → AgreeOff sh (whole g) (cells sh image) (cells sh known)
-  known-agree g less = record { cell = λ s t m l b e. sym (filled-at 0 image _ ∙ fill-known 0 _ (given .covered s t m l b (less s t e))) }
+  copy-agree : (g : TrackFlags) → ((s : TrackSet) (t : ℕ) → g s t ≡ false → f s t ≡ false) → AgreeOff sh (whole g) (cells sh image) (cells sh (known image))
+  copy-agree g less = record { cell = λ s t m l b e. sym (known-at image _ ∙ cell-known _ (given .covered s t m l b (less s t e))) }
 
-  agree-known : (g : TrackFlags) → ((s : TrackSet) (t : ℕ) → g s t ≡ false → f s t ≡ false) → (y : Cells) → AgreeOff sh (whole g) (cells sh image) y →
-      AgreeOff sh (whole g) (cells sh known) y
-  agree-known g less y n = agree-on sh (whole g) (record { cell = λ s t m l b e. sym (known-agree g less .cell s t m l b e) }) n
-
-  -- So it differs from the image, which is put back, in marked tracks alone.
-  pub given-back : (copy : List ℕ) → copy ≡ known → OnlyMarked z marks (filled 2 image) copy
-  given-back copy e = rw (filled-same image, e) (record {
-    small = given .small;
-    marks-size = omega (arith, given .marks-size, given .small);
-    image-has = given .image-is .size;
-    out-has = known-size;
-    agree = known-agree f (λ s t h. h);
-  })
+  agree-copy : (g : TrackFlags) → ((s : TrackSet) (t : ℕ) → g s t ≡ false → f s t ≡ false) → (y : Cells) → AgreeOff sh (whole g) (cells sh image) y →
+      AgreeOff sh (whole g) (cells sh (known image)) y
+  agree-copy g less y n = agree-on sh (whole g) (record { cell = λ s t m l b e. sym (copy-agree g less .cell s t m l b e) }) n
 
   -- The output after the copy is made.
-  pub given-copy : (after : List ℕ) → Copied known out after → after ≡ known
-  given-copy after c = copied-all known out after c (known-size ∙ sym (given .out-has))
+  pub given-copy : (after : List ℕ) → Copied (known image) out after → after ≡ known image
+  given-copy after c = copied-all (known image) out after c (copy-size ∙ sym (given .out-has))
 
-  pub given-image : (copy : List ℕ) → copy ≡ known → Image sh copy
-  given-image copy e = rw e (record { size = known-size; bits = filled-bits image (given .image-is .readings) .bit })
+  pub given-image : (copy : List ℕ) → copy ≡ known image → Image sh copy
+  given-image copy e = rw e (record { size = copy-size; bits = known-bits image (given .image-is .readings) .bit })
 
   -- The copy with its syndromes.
-  pub given-kept : (copy syn : List ℕ) → copy ≡ known → Holds sh (cells sh copy) syn → Kept z known syn
+  pub given-kept : (copy syn : List ℕ) → copy ≡ known image → Holds sh (cells sh copy) syn → Kept z (known image) syn
   given-kept copy syn e h = record {
     small = given .small;
-    image = given-image known refl;
+    image = given-image (known image) refl;
     holds = subst (λ (xs : List ℕ). Holds sh (cells sh xs) syn) e h;
   }
 
   -- ## Repair
 
   -- The marks can be worked with.
-  pub given-workable : (copy syn : List ℕ) → copy ≡ known → Holds sh (cells sh copy) syn → Workable z marks known (filled 2 image) copy syn
+  pub given-workable : (copy syn : List ℕ) → copy ≡ known image → Holds sh (cells sh copy) syn → Workable z marks (known image) copy syn
   given-workable copy syn e h = record {
     kept = given-kept copy syn e h;
     copy = e;
     marks-size = omega (arith, given .marks-size, given .small);
     within = code-within sh f refl (given .coded);
-    put-back = given-back known refl;
   }
 
-  -- Answer 7: the image is put back.
-  module _ (after : List ℕ) (back : after ≡ filled 2 image) where
-    back-size : length after ≡ image-size sh
-    back-size = ap length (back ∙ filled-same image) ∙ given .image-is .size
+  -- Answer 7: the output is the image.
+  not-found : (after : List ℕ) → after ≡ image → (near : Cells → Type 0) → ((y : Cells) → Good sh y → near y → ⊥) → (answer : Result) → answer ≡ plain 7 0 →
+      NotFound sh near image out answer after
+  not-found after back near nothing answer e = record {
+    no-record = nothing;
+    copy = λ i l. ap (λ (xs : List ℕ). getD xs i 0) back;
+    stays = stays-all (image-size sh) out after (given .out-has) (ap length back ∙ given .image-is .size);
+    result = e;
+  }
 
-    not-found : (near : Cells → Type 0) → ((y : Cells) → Good sh y → near y → ⊥) → (answer : Result) → answer ≡ plain 7 0 → NotFound sh near image out answer after
-    not-found near nothing answer e = record {
-      no-record = nothing;
-      copy = λ i l. ap (λ (xs : List ℕ). getD xs i 0) (back ∙ filled-same image);
-      stays = stays-all (image-size sh) out after (given .out-has) back-size;
-      result = e;
-    }
-
-  module _ (after : List ℕ) (r : Bool) (w : Worked sh f known (filled 2 image) after r) where
+  module _ (after : List ℕ) (r : Bool) (w : Worked sh f (known image) after r) where
     found-agree : r ≡ true → AgreeOff sh (whole f) (cells sh image) (cells sh after)
-    found-agree h = agree-on sh (whole f) (known-agree f (λ s t e. e)) (w .agree h)
+    found-agree h = agree-on sh (whole f) (copy-agree f (λ s t e. e)) (w .agree h)
 
     -- Only marked tracks were changed.
     pub worked-only : r ≡ true → OnlyMarked z marks image after
@@ -174,14 +160,14 @@ module _ (z : Sizes) (marks image out : List ℕ) (given : Given z marks image o
       result = e;
     })
 
-    pub repair-none : r ≡ false → (answer : Result) → answer ≡ plain 7 0 → Repairs sh (whole f) image out answer after
-    repair-none h answer e = inr (not-found after (w .back h) _ (λ y g n. w .no-record h y g (agree-known f (λ s t e. e) y n)) answer e)
+    pub repair-none : r ≡ false → (last : List ℕ) → last ≡ image → (answer : Result) → answer ≡ plain 7 0 → Repairs sh (whole f) image out answer last
+    repair-none h last back answer e = inr (not-found last back _ (λ y g n. w .no-record h y g (agree-copy f (λ s t e. e) y n)) answer e)
 
   -- ## Tracing
 
   module _ (code : ℕ) (code-is : code ≡ flags-code sh f) where
     -- The tracer can work with them.
-    pub given-traceable : (copy first : List ℕ) → copy ≡ known → Holds sh (cells sh copy) first → Traceable z code marks known first
+    pub given-traceable : (copy first : List ℕ) → copy ≡ known image → Holds sh (cells sh copy) first → Traceable z code marks (known image) first
     given-traceable copy first e h = record {
       kept = given-kept copy first e h;
       marks-size = given .marks-size;
@@ -193,7 +179,7 @@ module _ (z : Sizes) (marks image out : List ℕ) (given : Given z marks image o
     more : (e : Choice) (s : TrackSet) (t : ℕ) → with-extras f e s t ≡ false → f s t ≡ false
     more e s t h = neither (f s t) _ h .0
 
-    module _ (after : List ℕ) (r : Hit) (w : Searched z code f known after r) where
+    module _ (after : List ℕ) (r : Hit) (w : Searched z code f (known image) after r) where
       abbrev choice : Choice
       choice = choice-at (r .a) (r .b)
 
@@ -201,7 +187,7 @@ module _ (z : Sizes) (marks image out : List ℕ) (given : Given z marks image o
       found-fits : r .found ≡ true → Fits sh code f image choice (cells sh after)
       found-fits h =
           let n = w .fits h in
-          record { good = n .good; allowed = n .allowed; agree = agree-on sh (whole (with-extras f choice)) (known-agree (with-extras f choice) (more choice)) (n .agree) }
+          record { good = n .good; allowed = n .allowed; agree = agree-on sh (whole (with-extras f choice)) (copy-agree (with-extras f choice) (more choice)) (n .agree) }
 
       -- Only flagged tracks and extras were changed.
       pub searched-only : r .found ≡ true → (wide : List ℕ) → Widened sh marks choice wide → OnlyMarked z wide image after
@@ -224,6 +210,6 @@ module _ (z : Sizes) (marks image out : List ℕ) (given : Given z marks image o
             result = e ∙ (λ i. mended sh (cells sh image) (cells sh after) (λ s. fits-names z code f image after (r .a) (r .b) (w .is-choice h) n s i));
           })
 
-      pub trace-none : r .found ≡ false → (last : List ℕ) → last ≡ filled 2 image → (answer : Result) → answer ≡ plain 7 0 → Traces sh code f image out answer last
+      pub trace-none : r .found ≡ false → (last : List ℕ) → last ≡ image → (answer : Result) → answer ≡ plain 7 0 → Traces sh code f image out answer last
       trace-none h last back answer e = inr (not-found last back _
-          (λ y g n. w .no-record h y g (record { choice = n .choice; allowed = n .allowed; agree = agree-known (with-extras f (n .choice)) (more (n .choice)) y (n .agree) })) answer e)
+          (λ y g n. w .no-record h y g (record { choice = n .choice; allowed = n .allowed; agree = agree-copy (with-extras f (n .choice)) (more (n .choice)) y (n .agree) })) answer e)

@@ -22,9 +22,9 @@ use Rattle.code.proofs.Masks.{changed-in-le, unchanged-in, sum-append}
 use Rattle.code.proofs.Patterns.{but-for}
 use Rattle.code.proofs.Places.{Place, place, number-lt}
 use Rattle.code.proofs.Sums.{sum-same}
-use Rattle.track.specs.Track.{Readings, fill, filled, Copied, differing}
+use Rattle.track.specs.Track.{Readings, known-cell, known, Copied, differing}
 use Rattle.track.proofs.Cells.{every}
-use Rattle.track.proofs.Lost.{length-filled, filled-at}
+use Rattle.track.proofs.Lost.{length-known, known-at}
 use Rattle.track.proofs.Rows.{row-end}
 use Rattle.track.proofs.Parts.{part-at, put-before, put-in, put-after}
 use Rattle.repair.specs.Steps.{HasTrack, changed-at, OnlyMarked, TrackBack}
@@ -63,17 +63,17 @@ module _ (l g : ℕ) (image out : List ℕ) (has : HasTrack l g image out) where
       let size : length (take (g * l + l - g * l) (drop (g * l) image)) ≡ l = mid-len (g * l) (g * l + l) image (has .room) ∙ omega arith in
       rw size (sum-same l _ _ (λ m h. ap₂ differ (part-at image (g * l) (g * l + l - g * l) m (omega arith)) (part-at out (g * l) (g * l + l - g * l) m (omega arith))))
 
-  -- The stretch of the image is copied back, with v for a lost cell.
-  pub track-back : (v : ℕ) (last : List ℕ) → Copied (filled v (take (g * l + l - g * l) (drop (g * l) image))) (take (g * l + l - g * l) (drop (g * l) out)) last →
-      TrackBack l g (filled v image) out (putMid (g * l) (g * l + l - g * l) out last)
-  track-back v last c =
+  -- The stretch of a working copy is made anew.
+  pub track-back : (last : List ℕ) → Copied (known (take (g * l + l - g * l) (drop (g * l) image))) (take (g * l + l - g * l) (drop (g * l) out)) last →
+      TrackBack l g (known image) out (putMid (g * l) (g * l + l - g * l) out last)
+  track-back last c =
       let stretch = take (g * l + l - g * l) (drop (g * l) image) in
       let room : g * l + l ≤ length out = omega (arith, has .room, has .sizes) in
       let size : length last ≡ g * l + l - g * l = c .size ∙ mid-len (g * l) (g * l + l) out room in
       record {
         size = same-len-mid (g * l) (g * l + l - g * l) out last (c .size);
-        here = λ m h. put-in out last (g * l) l room size m h ∙ c .copy m (omega (arith, length-filled v stretch, mid-len (g * l) (g * l + l) image (has .room)))
-            ∙ filled-at v stretch m ∙ ap (fill v) (part-at image (g * l) (g * l + l - g * l) m (omega arith)) ∙ sym (filled-at v image (g * l + m));
+        here = λ m h. put-in out last (g * l) l room size m h ∙ c .copy m (omega (arith, length-known stretch, mid-len (g * l) (g * l + l) image (has .room)))
+            ∙ known-at stretch m ∙ ap known-cell (part-at image (g * l) (g * l + l - g * l) m (omega arith)) ∙ sym (known-at image (g * l + m));
         there = λ k m d h. by-cases (decLt k g)
             (λ b. put-before out last (g * l) l room size (k * l + m) (digits-lt b h))
             (λ b. put-after out last (g * l) l room size (k * l + m) (omega (arith, row-end l g k (omega arith))));

@@ -6,9 +6,9 @@ use Prim.Native.Nat.{ℕ, _≤_}
 use native.Mathlib.Omega.{arith}
 use lib.ListN.{length}
 use lib.Seq.{ext-getD}
-use Rattle.code.specs.Record.{A, B, Shape, Cells}
+use Rattle.code.specs.Record.{A, B, Shape}
 use Rattle.code.specs.Image.{cells}
-use Rattle.code.specs.Flags.{TrackFlags, CellFlags, whole, AgreeOff}
+use Rattle.code.specs.Flags.{TrackFlags, whole, AgreeOff}
 use Rattle.code.specs.Reach.{flags-code, Choice, Allowed, with-extras}
 use Rattle.code.specs.Sizes.{shape}
 use Rattle.code.specs.declared.Sizes.{Sizes}
@@ -25,17 +25,13 @@ use Rattle.repair.proofs.Flagging.{SameFlags, within-same, agree-same, 
 pub copied-all : (source before after : List ℕ) → Copied source before after → length source ≡ length before → after ≡ source
 copied-all source before after c e = ext-getD 0 after source (c .size ∙ sym e) (λ i h. c .copy i (omega (arith, c .size)))
 
--- Two agreements, one after the other.
-pub agree-on : (sh : Shape) (flag : CellFlags) {x y u : Cells} → AgreeOff sh flag x y → AgreeOff sh flag y u → AgreeOff sh flag x u
-agree-on sh flag p q = record { cell = λ s t m l b e. p .cell s t m l b e ∙ q .cell s t m l b e }
-
 -- ## A plan's solution
 
 -- The copy has the image's syndromes.
-pub workable-kept : (z : Sizes) (marks image last out syn : List ℕ) → Workable z marks image last out syn → Kept z out syn
-workable-kept z marks image last out syn given = subst (λ (xs : List ℕ). Kept z xs syn) (sym (given .copy)) (given .kept)
+pub workable-kept : (z : Sizes) (marks image out syn : List ℕ) → Workable z marks image out syn → Kept z out syn
+workable-kept z marks image out syn given = subst (λ (xs : List ℕ). Kept z xs syn) (sym (given .copy)) (given .kept)
 
-module _ (z : Sizes) (marks image last out syn : List ℕ) (given : Workable z marks image last out syn) (a b : Plan) where
+module _ (z : Sizes) (marks image out syn : List ℕ) (given : Workable z marks image out syn) (a b : Plan) where
   abbrev sh : Shape
   sh = shape z
 
@@ -48,18 +44,18 @@ module _ (z : Sizes) (marks image last out syn : List ℕ) (given : Workable z m
     changed = subst (λ (xs : List ℕ). AgreeOff sh (whole f) (cells sh xs) (cells sh after)) (given .copy)
         (frame-agree sh f a b _ _ (in-each (λ s. Planned sh f s (plan-of a b s)) pa pb) (solved .frame))
 
-    -- So the output differs from the image, as it is put back, in marked tracks alone.
-    pub solved-only : OnlyMarked z marks last after
+    -- So the output differs from the image in marked tracks alone.
+    pub solved-only : OnlyMarked z marks image after
     solved-only = record {
       small = given .kept .small;
       marks-size = given .marks-size;
-      image-has = given .put-back .image-has;
+      image-has = given .kept .image .size;
       out-has = solved .kept .image .size;
-      agree = agree-on sh (whole f) (given .put-back .agree) changed;
+      agree = changed;
     }
 
     -- The solver found a good record.
-    pub worked-good : r ≡ true → Worked sh f image last after true
+    pub worked-good : r ≡ true → Worked sh f image after true
     worked-good h = record {
       size = solved .kept .image .size;
       good = λ _. solved .good h;
@@ -68,10 +64,10 @@ module _ (z : Sizes) (marks image last out syn : List ℕ) (given : Workable z m
       back = λ e. absurd (true≢false e);
     }
 
-    -- It found none, and the image is put back.
-    pub worked-none : r ≡ false → Fills sh f A a → Fills sh f B b → (end : List ℕ) → end ≡ last → Worked sh f image last end false
-    worked-none h fa fb end e = record {
-      size = ap length e ∙ given .put-back .image-has;
+    -- It found none, and the output is put back.
+    pub worked-none : r ≡ false → Fills sh f A a → Fills sh f B b → (last : List ℕ) → last ≡ image → Worked sh f image last false
+    worked-none h fa fb last e = record {
+      size = ap length e ∙ given .kept .image .size;
       good = λ t. absurd (true≢false (sym t));
       agree = λ t. absurd (true≢false (sym t));
       no-record = λ _ y g n. solved .none h f y pa pb (beside sh f a b (given .within) fa fb) g
@@ -99,24 +95,17 @@ module _ (z : Sizes) (code : ℕ) (marks image first : List ℕ) (given : Tracea
     back s t l = sym (widened .flags s t l)
 
     -- The marks with an allowed choice can be worked with.
-    pub choice-workable : Allowed (shape z) code own e → (out syn : List ℕ) → out ≡ image → syn ≡ first → Workable z wide image image out syn
+    pub choice-workable : Allowed (shape z) code own e → (out syn : List ℕ) → out ≡ image → syn ≡ first → Workable z wide image out syn
     choice-workable a out syn p q = record {
       kept = subst (λ (xs : List ℕ). Kept z image xs) (sym q) (given .kept);
       copy = p;
       marks-size = omega (arith, widened .size, given .marks-size, given .kept .small);
       within = within-same (shape z) _ wider back refl
           (allowed-within (shape z) own e refl (λ h. given .coded (given .code-is ∙ h)) (subst (λ (k : ℕ). Allowed (shape z) k own e) (given .code-is) a));
-      put-back = record {
-        small = given .kept .small;
-        marks-size = omega (arith, widened .size, given .marks-size, given .kept .small);
-        image-has = given .kept .image .size;
-        out-has = given .kept .image .size;
-        agree = record { cell = λ s t m l b h. refl };
-      };
     }
 
     -- What comes of the marks is what comes of the choice.
-    pub choice-tried : Allowed (shape z) code own e → (after : List ℕ) (r : Bool) → Worked (shape z) wider image image after r → Tried (shape z) code own image e after r
+    pub choice-tried : Allowed (shape z) code own e → (after : List ℕ) (r : Bool) → Worked (shape z) wider image after r → Tried (shape z) code own image e after r
     choice-tried a after r w = record {
       size = w .size;
       fits = λ h. record { good = w .good h; allowed = a; agree = agree-same (shape z) wider _ (widened .flags) _ _ (w .agree h) };

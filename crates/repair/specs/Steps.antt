@@ -92,22 +92,20 @@ named-at l image out first (suc t) = pick (eqb (changed-at l image out (first + 
 
 -- ## One set of flags
 
--- A copy of the image, the image's syndromes, and marks that the code can repair. `last` is the image as it is put back, which differs
--- in marked tracks at the most.
-pub record Workable (z : Sizes) (marks image last out syn : List ℕ) : Type 0 where
+-- A copy of the image, the image's syndromes, and marks that the code can repair.
+pub record Workable (z : Sizes) (marks image out syn : List ℕ) : Type 0 where
   pub kept : Kept z image syn
   pub copy : out ≡ image
   pub marks-size : all-tracks (shape z) ≤ length marks
   pub within : Within (shape z) (marked (shape z) marks)
-  pub put-back : OnlyMarked z marks last image
 
--- What comes of them: true with a good record, or false, and there is none, and the image is put back.
-pub record Worked (sh : Shape) (f : TrackFlags) (image last after : List ℕ) (r : Bool) : Type 0 where
+-- What comes of them: true with a good record, or false, and there is none, and the output is the image again.
+pub record Worked (sh : Shape) (f : TrackFlags) (image after : List ℕ) (r : Bool) : Type 0 where
   pub size : length after ≡ image-size sh
   pub good : r ≡ true → Good sh (cells sh after)
   pub agree : r ≡ true → AgreeOff sh (whole f) (cells sh image) (cells sh after)
   pub no-record : r ≡ false → (y : Cells) → Good sh y → AgreeOff sh (whole f) (cells sh image) y → ⊥
-  pub back : r ≡ false → after ≡ last
+  pub back : r ≡ false → after ≡ image
 
 -- ## Choices of extras
 

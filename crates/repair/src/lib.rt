@@ -16,7 +16,7 @@ ghost use Rattle.code.specs.Calls.{early-checks, Repairs, Traces};
 ghost use Rattle.code.specs.Contracts.{Repaired, Traced};
 ghost use Rattle.code.specs.Answers.{extra-of, result-of};
 ghost use Rattle.code.specs.Sizes.{shape, Small};
-ghost use Rattle.track.specs.Track.{Readings, filled};
+ghost use Rattle.track.specs.Track.{Readings, known};
 ghost use Rattle.checks.specs.First.{FirstAnswer};
 ghost use Rattle.checks.specs.Lost.{LostTold};
 ghost use Rattle.solver.specs.Solver.{marked};
@@ -210,31 +210,42 @@ fn count_changes(z: Sizes, marks: &[u8], image: &[u8], out: &[u8]) -> Changes
     Changes { mask, cells: count }
 }
 
-// Copies track number g of the image back, with `lost` for a lost cell.
-fn restore_track(image: &[u8], out: &mut [u8], l: usize, g: usize, lost: u8)
+// Makes track number g of a working copy anew.
+fn restore_track(image: &[u8], out: &mut [u8], l: usize, g: usize)
     requires { ⌜ HasTrack l g (now image) (now out) ⌝ }
     requires { ⌜ Readings (now image) ⌝ }
-    ensures { λ _. ⌜ TrackBack l g (filled lost (now (image .entry))) (now (out .entry)) (now (out .exit)) ⌝ }
+    ensures { λ _. ⌜ TrackBack l g (known (now (image .entry))) (now (out .entry)) (now (out .exit)) ⌝ }
 {
     let start = g * l;
     let end = start + l;
-    track::copy_filled(&mut out[start..end], &image[start..end], lost);
+    track::copy_known(&mut out[start..end], &image[start..end]);
 }
 
-// Copies the marked tracks of the image back, of which alone any are changed, with `lost` for a lost cell.
-fn restore(z: Sizes, marks: &[u8], image: &[u8], out: &mut [u8], lost: u8)
-    requires { ⌜ OnlyMarked z (now marks) (filled lost (now image)) (now out) ⌝ }
+// Makes the marked tracks of a working copy anew, of which alone any are changed.
+fn restore(z: Sizes, marks: &[u8], image: &[u8], out: &mut [u8])
+    requires { ⌜ OnlyMarked z (now marks) (known (now image)) (now out) ⌝ }
     requires { ⌜ Readings (now image) ⌝ }
-    ensures { λ _. ⌜ now (out .exit) ≡ filled lost (now (image .entry)) ⌝ }
+    ensures { λ _. ⌜ now (out .exit) ≡ known (now (image .entry)) ⌝ }
 {
     let l = z.positions + (z.t1 + z.t2 + 1);
     let all = z.t1 + z.t2 + 4;
     let mut g = 0;
     while g < all {
         if marks[g] == 1 {
-            restore_track(image, out, l, g, lost);
+            restore_track(image, out, l, g);
         }
         g += 1;
+    }
+}
+
+// Makes the image of a working copy: its lost cells are lost again, where it has any.
+fn put_back(image: &[u8], out: &mut [u8], lost: bool)
+    requires { ⌜ now out ≡ known (now image) ⌝ }
+    requires { ⌜ LostTold (now image) lost ⌝ }
+    ensures { λ _. ⌜ now (out .exit) ≡ now (image .entry) ⌝ }
+{
+    if lost {
+        track::copy_into(out, image);
     }
 }
 
@@ -275,35 +286,36 @@ fn answer_of(z: Sizes, marks: &[u8], image: &[u8], out: &[u8], a: usize, b: usiz
 
 // ---- One set of flags
 
-// Solves a working copy of the image, in which a lost cell is 0, by the marked tracks. Where there is no good record the output is the
-// image again, with `lost` for a lost cell.
-fn work(z: Sizes, marks: &[u8], image: &[u8], out: &mut [u8], syn: &mut [u8], lost: u8) -> bool
-    requires { ⌜ Workable z (now marks) (filled 0 (now image)) (filled lost (now image)) (now out) (now syn) ⌝ }
+// Solves a working copy of the image by the marked tracks. Where there is no good record the output is the working copy again.
+fn work(z: Sizes, marks: &[u8], image: &[u8], out: &mut [u8], syn: &mut [u8]) -> bool
+    requires { ⌜ Workable z (now marks) (known (now image)) (now out) (now syn) ⌝ }
     requires { ⌜ Readings (now image) ⌝ }
-    ensures { λ r. ⌜ Worked (shape z) (marked (shape z) (now (marks .entry))) (filled 0 (now (image .entry))) (filled lost (now (image .entry))) (now (out .exit)) r ⌝ }
+    ensures { λ r. ⌜ Worked (shape z) (marked (shape z) (now (marks .entry))) (known (now (image .entry))) (now (out .exit)) r ⌝ }
 {
     let a = solver::make_plan(marks, z, 0);
     let b = solver::make_plan(marks, z, 1);
     if solver::solve(out, syn, z, a, b) {
         return true;
     }
-    restore(z, marks, image, out, lost);
+    restore(z, marks, image, out);
     false
 }
 
 // Repairs into the output, of the image's size.
-fn repair_record(z: Sizes, marks: [u8; 18], image: &[u8], out: &mut [u8]) -> Answer
+fn repair_record(z: Sizes, marks: [u8; 18], image: &[u8], out: &mut [u8], lost: bool) -> Answer
     requires { ⌜ Given z marks (now image) (now out) ⌝ }
+    requires { ⌜ LostTold (now image) lost ⌝ }
     ensures { λ r. ⌜ Repairs (shape z) (whole (marked (shape z) marks)) (now (image .entry)) (now (out .entry)) (result-of r) (now (out .exit)) ⌝ }
 {
     let l = z.positions + (z.t1 + z.t2 + 1);
-    track::copy_filled(out, image, 0);
+    track::copy_known(out, image);
     let mut room = [0u8; 8252];
     let syn = &mut room[..4 * l];
     syndrome::syndromes(out, z, syn);
-    if work(z, &marks, image, out, syn, 2) {
+    if work(z, &marks, image, out, syn) {
         return answer_of(z, &marks, image, out, 0, 0);
     }
+    put_back(image, out, lost);
     plain_answer(7, 0)
 }
 
@@ -328,7 +340,7 @@ pub fn repair(blocks: u32, flags: u32, image: &[u8], out: &mut [u8]) -> Answer
     if code == 0 {
         return plain_answer(6, 0);
     }
-    repair_record(z, marks, image, &mut out[..18 * (8 * n + 15)])
+    repair_record(z, marks, image, &mut out[..18 * (8 * n + 15)], seen.lost)
 }
 
 // ---- Choices of extras
@@ -425,19 +437,19 @@ fn try_choice(
     a: usize,
     b: usize,
 ) -> bool
-    requires { ⌜ Traceable z code marks (filled 0 (now image)) (now first) ⌝ }
-    requires { ⌜ now out ≡ filled 0 (now image) ⌝ }
+    requires { ⌜ Traceable z code marks (known (now image)) (now first) ⌝ }
+    requires { ⌜ now out ≡ known (now image) ⌝ }
     requires { ⌜ length (now syn) ≡ length (now first) ⌝ }
     requires { ⌜ IsChoice z a b ⌝ }
     requires { ⌜ Readings (now image) ⌝ }
-    ensures { λ r. ⌜ Tried (shape z) code (marked (shape z) marks) (filled 0 (now (image .entry))) (choice-at a b) (now (out .exit)) r ⌝ }
+    ensures { λ r. ⌜ Tried (shape z) code (marked (shape z) marks) (known (now (image .entry))) (choice-at a b) (now (out .exit)) r ⌝ }
 {
     if !allows(z, code, marks, a, b) {
         return false;
     }
     let wide = widen(z, marks, a, b);
     track::copy_into(syn, first);
-    work(z, &wide, image, out, syn, 0)
+    work(z, &wide, image, out, syn)
 }
 
 // Tries the choices one after the other, up to one that fits.
@@ -450,11 +462,11 @@ fn search(
     first: &[u8],
     syn: &mut [u8],
 ) -> Hit
-    requires { ⌜ Traceable z code marks (filled 0 (now image)) (now first) ⌝ }
-    requires { ⌜ now out ≡ filled 0 (now image) ⌝ }
+    requires { ⌜ Traceable z code marks (known (now image)) (now first) ⌝ }
+    requires { ⌜ now out ≡ known (now image) ⌝ }
     requires { ⌜ length (now syn) ≡ length (now first) ⌝ }
     requires { ⌜ Readings (now image) ⌝ }
-    ensures { λ r. ⌜ Searched z code (marked (shape z) marks) (filled 0 (now (image .entry))) (now (out .exit)) r ⌝ }
+    ensures { λ r. ⌜ Searched z code (marked (shape z) marks) (known (now (image .entry))) (now (out .exit)) r ⌝ }
 {
     let in_a = z.t1 + 2;
     let in_b = z.t2 + 2;
@@ -476,13 +488,21 @@ fn search(
 }
 
 // Traces into the output, of the image's size.
-fn trace_record(z: Sizes, code: u8, marks: [u8; 18], image: &[u8], out: &mut [u8]) -> Answer
+fn trace_record(
+    z: Sizes,
+    code: u8,
+    marks: [u8; 18],
+    image: &[u8],
+    out: &mut [u8],
+    lost: bool,
+) -> Answer
     requires { ⌜ Given z marks (now image) (now out) ⌝ }
     requires { ⌜ code ≡ flags-code (shape z) (marked (shape z) marks) ⌝ }
+    requires { ⌜ LostTold (now image) lost ⌝ }
     ensures { λ r. ⌜ Traces (shape z) code (marked (shape z) marks) (now (image .entry)) (now (out .entry)) (result-of r) (now (out .exit)) ⌝ }
 {
     let l = z.positions + (z.t1 + z.t2 + 1);
-    track::copy_filled(out, image, 0);
+    track::copy_known(out, image);
     let mut room = [0u8; 8252];
     let mut spare = [0u8; 8252];
     let first = &mut room[..4 * l];
@@ -490,7 +510,7 @@ fn trace_record(z: Sizes, code: u8, marks: [u8; 18], image: &[u8], out: &mut [u8
     syndrome::syndromes(out, z, first);
     let hit = search(z, code, marks, image, out, first, syn);
     if !hit.found {
-        restore(z, &marks, image, out, 2);
+        put_back(image, out, lost);
         return plain_answer(7, 0);
     }
     let wide = widen(z, marks, hit.a, hit.b);
@@ -518,5 +538,5 @@ pub fn trace(blocks: u32, flags: u32, image: &[u8], out: &mut [u8]) -> Answer
     if code == 0 {
         return plain_answer(6, 0);
     }
-    trace_record(z, code, marks, image, &mut out[..18 * (8 * n + 15)])
+    trace_record(z, code, marks, image, &mut out[..18 * (8 * n + 15)], seen.lost)
 }

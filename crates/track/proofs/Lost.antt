@@ -1,59 +1,49 @@
--- Laws of lost cells: lists in which they are filled, and how the highest byte tells of them.
-use mathlib.Core.Path.{_≡_, refl, sym, ap, ap₂, _∙_}
+-- Laws of lost cells: working copies, in which they are 0, and how the highest byte tells of them.
+use mathlib.Core.Path.{_≡_, refl, sym, ap, _∙_}
 use mathlib.Core.Bool.{Bool, true, false, true≢false}
 use mathlib.Core.List.{List, [], _∷_}
 use Prim.Native.Nat.{ℕ, zero, suc, _<_}
 use native.Mathlib.Omega.{arith}
 use borrow.Author.Tests.{eqb-true}
 use lib.ListN.{length, getD}
+use lib.Seq.{ext-getD}
 use Rattle.code.specs.Lost.{read-values, is-lost}
 use Rattle.code.specs.Reach.{pick}
 use Rattle.code.specs.Flags.{any}
 use Rattle.code.proofs.Lost.{any-none, bit-known}
 use Rattle.code.proofs.Patterns.{none-flagged}
-use Rattle.track.specs.Track.{Bits, Readings, fill, filled, Highest}
+use Rattle.track.specs.Track.{Bits, Readings, known-cell, known, Highest}
 
--- ## Cells
+-- ## Working copies
 
--- With 0 a reading is a bit.
-fill-bit : (x : ℕ) → x < read-values → fill 0 x < 2
-fill-bit zero h = omega arith
-fill-bit (suc zero) h = omega arith
-fill-bit (suc (suc zero)) h = omega arith
-fill-bit (suc (suc (suc x))) h = absurd (omega arith)
-
--- With a lost cell's byte it is itself.
-fill-same : (x : ℕ) → fill 2 x ≡ x
-fill-same x = go (is-lost x) refl
-  where
-    go : (b : Bool) → is-lost x ≡ b → pick b 2 x ≡ x
-    go true e = sym (eqb-true x 2 e)
-    go false e = refl
+-- A reading becomes a bit.
+known-cell-bit : (x : ℕ) → x < read-values → known-cell x < 2
+known-cell-bit zero h = omega arith
+known-cell-bit (suc zero) h = omega arith
+known-cell-bit (suc (suc zero)) h = omega arith
+known-cell-bit (suc (suc (suc x))) h = absurd (omega arith)
 
 -- A cell that is not lost stays.
-pub fill-known : (v x : ℕ) → is-lost x ≡ false → fill v x ≡ x
-fill-known v x e = ap (λ (b : Bool). pick b v x) e
+pub cell-known : (x : ℕ) → is-lost x ≡ false → known-cell x ≡ x
+cell-known x e = ap (λ (b : Bool). pick b 0 x) e
 
--- ## Lists
+pub length-known : (xs : List ℕ) → length (known xs) ≡ length xs
+unfolding known
+length-known [] = refl
+length-known (x ∷ xs) = ap suc (length-known xs)
 
-pub length-filled : (v : ℕ) (xs : List ℕ) → length (filled v xs) ≡ length xs
-unfolding filled
-length-filled v [] = refl
-length-filled v (x ∷ xs) = ap suc (length-filled v xs)
+pub known-at : (xs : List ℕ) (i : ℕ) → getD (known xs) i 0 ≡ known-cell (getD xs i 0)
+unfolding known
+known-at [] i = refl
+known-at (x ∷ xs) zero = refl
+known-at (x ∷ xs) (suc i) = known-at xs i
 
-pub filled-at : (v : ℕ) (xs : List ℕ) (i : ℕ) → getD (filled v xs) i 0 ≡ fill v (getD xs i 0)
-unfolding filled
-filled-at v [] i = refl
-filled-at v (x ∷ xs) zero = refl
-filled-at v (x ∷ xs) (suc i) = filled-at v xs i
+pub known-bits : (xs : List ℕ) → Readings xs → Bits (known xs)
+known-bits xs r = record { bit = λ i. rw (known-at xs i) (known-cell-bit _ (r .reading i)) }
 
-pub filled-bits : (xs : List ℕ) → Readings xs → Bits (filled 0 xs)
-filled-bits xs r = record { bit = λ i. rw (filled-at 0 xs i) (fill-bit _ (r .reading i)) }
-
-pub filled-same : (xs : List ℕ) → filled 2 xs ≡ xs
-unfolding filled
-filled-same [] = refl
-filled-same (x ∷ xs) = ap₂ _∷_ (fill-same x) (filled-same xs)
+-- A list of bits is its own working copy.
+pub known-same : (xs : List ℕ) → ((i : ℕ) → getD xs i 0 < 2) → known xs ≡ xs
+known-same xs bits = ext-getD 0 (known xs) xs (length-known xs) (λ i h. known-at xs i ∙ cell-known _ (bit-known _ (bits i)))
 
 -- ## The highest byte
 

@@ -21,14 +21,14 @@ pub record Bits (xs : List ℕ) : Type 0 where
 pub record Readings (xs : List ℕ) : Type 0 where
   pub reading : (i : ℕ) → getD xs i 0 < read-values
 
--- A cell, with v in its place where it is lost.
-abbrev pub fill : ℕ → ℕ → ℕ
-fill v x = pick (is-lost x) v x
+-- A cell, and 0 where it is lost.
+abbrev pub known-cell : ℕ → ℕ
+known-cell x = pick (is-lost x) 0 x
 
--- A list with v for each lost cell: with 0 in a working copy, and with a lost cell's byte the list itself.
-unfoldable pub filled : ℕ → List ℕ → List ℕ
-filled v [] = []
-filled v (x ∷ xs) = fill v x ∷ filled v xs
+-- What a working copy of a list holds.
+unfoldable pub known : List ℕ → List ℕ
+known [] = []
+known (x ∷ xs) = known-cell x ∷ known xs
 
 -- `after` is `before` with a track added modulo 2, its first cell at `off`.
 pub record Added (before track : List ℕ) (off : ℕ) (after : List ℕ) : Type 0 where

@@ -1,4 +1,5 @@
 // Functions on one track's stretch of an image.
+use code::Reading;
 ghost use mathlib.Core.Path.{_≡_};
 ghost use Prim.Native.Nat.{ℕ, suc, _+_, _*_, _-_, _/_, _%_, _^_, _<_, _≤_};
 ghost use lib.ListN.{length, getD};
@@ -10,8 +11,8 @@ ghost use Rattle.code.specs.Record.{sum};
 ghost use Rattle.track.specs.Track.{
   Bits,
   Readings,
-  fill,
-  filled,
+  known-cell,
+  known,
   Added,
   Cleared,
   Copied,
@@ -62,24 +63,29 @@ pub fn copy_into(out: &mut [u8], source: &[u8])
     }
 }
 
-// A cell, with `lost` in its place where it is lost.
-fn fill_cell(x: u8, lost: u8) -> u8
+// A cell, and 0 where it is lost.
+fn known_cell(x: u8) -> u8
     requires { ⌜ x < read-values ⌝ }
-    ensures { λ r. ⌜ r ≡ fill lost x ⌝ }
+    ensures { λ r. ⌜ r ≡ known-cell x ⌝ }
 {
-    if code::is_lost(x) { lost } else { x }
+    let reading = code::read_cell(x);
+    match reading {
+        Reading::Zero => 0,
+        Reading::One => 1,
+        Reading::Lost => 0,
+    }
 }
 
-// Copies a stretch to the start of another, with `lost` for each lost cell.
-pub fn copy_filled(out: &mut [u8], source: &[u8], lost: u8)
+// Makes a working copy of a stretch at the start of another: a lost cell is 0 in it.
+pub fn copy_known(out: &mut [u8], source: &[u8])
     requires { ⌜ length (now source) ≤ length (now out) ⌝ }
     requires { ⌜ Readings (now source) ⌝ }
-    ensures { λ _. ⌜ Copied (filled lost (now (source .entry))) (now (out .entry)) (now (out .exit)) ⌝ }
+    ensures { λ _. ⌜ Copied (known (now (source .entry))) (now (out .entry)) (now (out .exit)) ⌝ }
 {
     let n = source.len();
     let mut i = 0;
     while i < n {
-        out[i] = fill_cell(source[i], lost);
+        out[i] = known_cell(source[i]);
         i += 1;
     }
 }

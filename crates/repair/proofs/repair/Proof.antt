@@ -73,7 +73,9 @@ slice-aggregate-repair-record : tie.Need-slice-aggregate-repair-record
 slice-aggregate-repair-record c = sym (length-take-le _ _ (has-room _ _ _ _ (passes (c .before .before .before .before .before .before))))
 
 repair-record-requires : tie.Need-repair-record-requires
-repair-record-requires c κs = given _ _ _ _ (passes (c .before .before .before .before .before .before)) _ _ (c .before .before .before .before .before .marks-of .ensures) (c .before .before .before .before .mark-lost .ensures) (coded (c .before))
+repair-record-requires c κs =
+    let p = passes (c .before .before .before .before .before .before) in
+    (given _ _ _ _ p _ _ (c .before .before .before .before .before .marks-of .ensures) (c .before .before .before .before .mark-lost .ensures) (coded (c .before)), c .before .before .before .before .before .before .before .before .before .check .ensures .1 (c .before .before .before .before .before .before .if1 .left))
 
 same-length : tie.Need-same-length
 same-length c = search needs

@@ -1,6 +1,7 @@
 -- `repair_record`: the output is the working copy and `syn` holds its syndromes, so the marked tracks can be worked with.
-use mathlib.Core.Path.{sym}
+use mathlib.Core.Path.{sym, ap, _∙_}
 use native.Mathlib.Omega.{arith}
+use lib.ListN.{length}
 use lib.Seq.{length-take-le}
 use Rattle.repair.proofs.Records.{given-copy, given-image, given-workable, worked-only, repair-found, repair-none}
 use borrow.Author.Needs.{needs}
@@ -16,8 +17,8 @@ add-l-2 c = search needs
 add-l-3 : tie.Need-add-l-3
 add-l-3 c = search needs
 
-copy-filled-requires : tie.Need-copy-filled-requires
-copy-filled-requires c κs = (search needs, c .before .before .before .before .before .pre .image-is .readings)
+copy-known-requires : tie.Need-copy-known-requires
+copy-known-requires c κs = (search needs, c .before .before .before .before .before .pre .0 .image-is .readings)
 
 mul-room : tie.Need-mul-room
 mul-room c = search needs
@@ -30,39 +31,44 @@ slice-aggregate-syn c = sym (length-take-le _ _ (omega arith))
 
 syndromes-requires : tie.Need-syndromes-requires
 syndromes-requires c κs =
-    let p = c .before .before .before .before .before .before .before .before .before .before .before .pre in
-    (p .small, (given-image _ _ _ _ p _ (given-copy _ _ _ _ p _ (c .before .before .before .before .before .copy-filled .ensures)), length-take-le _ _ (omega arith)))
+    let p = c .before .before .before .before .before .before .before .before .before .before .before .pre .0 in
+    (p .small, (given-image _ _ _ _ p _ (given-copy _ _ _ _ p _ (c .before .before .before .before .before .copy-known .ensures)), length-take-le _ _ (omega arith)))
 
 slice-aggregate-work : tie.Need-slice-aggregate-work
 slice-aggregate-work c = search needs
 
 work-requires : tie.Need-work-requires
 work-requires c κs =
-    let p = c .before .before .before .before .before .before .before .before .before .before .before .before .before .before .before .before .pre in
-    (given-workable _ _ _ _ p _ _ (given-copy _ _ _ _ p _ (c .before .before .before .before .before .before .before .before .before .before .copy-filled .ensures)) (c .before .before .before .before .syndromes .ensures), p .image-is .readings)
+    let p = c .before .before .before .before .before .before .before .before .before .before .before .before .before .before .before .before .pre .0 in
+    (given-workable _ _ _ _ p _ _ (given-copy _ _ _ _ p _ (c .before .before .before .before .before .before .before .before .before .before .copy-known .ensures)) (c .before .before .before .before .syndromes .ensures), p .image-is .readings)
 
 slice-aggregate-answer-of : tie.Need-slice-aggregate-answer-of
 slice-aggregate-answer-of c = search needs
 
 answer-of-requires : tie.Need-answer-of-requires
 answer-of-requires c κs =
-    let p = c .before .before .before .before .before .before .before .before .before .before .before .before .before .before .before .before .before .before .before .before .before .before .before .pre in
+    let p = c .before .before .before .before .before .before .before .before .before .before .before .before .before .before .before .before .before .before .before .before .before .before .before .pre .0 in
     (worked-only _ _ _ _ p _ _ (c .before .before .before .before .before .before .work .ensures) (c .before .before .if1 .taken), record { small = p .small; in-a = omega arith; in-b = omega arith })
 
 same-length : tie.Need-same-length
 same-length c = search needs
 
 returns : tie.Need-returns
-returns c = repair-found _ _ _ _ (c .before .before .before .before .before .before .before .before .before .before .before .before .before .before .before .before .before .before .before .before .before .before .before .before .pre) _ _ (c .before .before .before .before .before .before .before .work .ensures) (c .before .before .before .if1 .taken) _ (c .answer-of .ensures)
+returns c = repair-found _ _ _ _ (c .before .before .before .before .before .before .before .before .before .before .before .before .before .before .before .before .before .before .before .before .before .before .before .before .pre .0) _ _ (c .before .before .before .before .before .before .before .work .ensures) (c .before .before .before .if1 .taken) _ (c .answer-of .ensures)
+
+put-back-requires : tie.Need-put-back-requires
+put-back-requires c κs = (c .before .before .before .before .before .work .ensures .back (c .before .if1 .left), c .before .before .before .before .before .before .before .before .before .before .before .before .before .before .before .before .before .before .before .before .before .before .pre .1)
 
 plain-answer-requires : tie.Need-plain-answer-requires
 plain-answer-requires c κs = search needs
 
 same-length-2 : tie.Need-same-length-2
-same-length-2 c = search needs
+same-length-2 c =
+    let p = c .before .before .before .before .before .before .before .before .before .before .before .before .before .before .before .before .before .before .before .before .before .before .before .before .before .before .pre .0 in
+    ap length (c .before .before .before .put-back .ensures) ∙ p .image-is .size ∙ sym (p .out-has)
 
 returns-2 : tie.Need-returns-2
-returns-2 c = repair-none _ _ _ _ (c .before .before .before .before .before .before .before .before .before .before .before .before .before .before .before .before .before .before .before .before .before .before .pre) _ _ (c .before .before .before .before .before .work .ensures) (c .before .if1 .left) _ (c .plain-answer .ensures)
+returns-2 c = repair-none _ _ _ _ (c .before .before .before .before .before .before .before .before .before .before .before .before .before .before .before .before .before .before .before .before .before .before .before .before .before .before .pre .0) _ _ (c .before .before .before .before .before .before .before .before .before .work .ensures) (c .before .before .before .before .before .if1 .left) _ (c .before .before .before .put-back .ensures) _ (c .plain-answer .ensures)
 
 pub repair-record-spec : {M : Type 1} → statement M
 repair-record-spec =
@@ -71,7 +77,7 @@ repair-record-spec =
     add-l
     add-l-2
     add-l-3
-    copy-filled-requires
+    copy-known-requires
     mul-room
     array-borrow-prefix-room
     slice-aggregate-syn
@@ -82,6 +88,7 @@ repair-record-spec =
     answer-of-requires
     same-length
     returns
+    put-back-requires
     plain-answer-requires
     same-length-2
     returns-2)

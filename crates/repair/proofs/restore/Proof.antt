@@ -1,21 +1,21 @@
--- `restore`: the loop's invariant is that the first g tracks and those without a mark are the image's, filled.
+-- `restore`: the loop's invariant is that the first g tracks and those without a mark are the working copy's.
 use mathlib.Core.Path.{_≡_, _∙_}
 use mathlib.Core.Logic.{⊎-elim}
 use Prim.Native.Nat.{_+_, _≤_, _-_}
 use native.Mathlib.Omega.{arith}
 use borrow.Author.Needs.{needs}
 use denote.Ref.{now}
-use Rattle.track.specs.Track.{filled}
-use Rattle.track.proofs.Lost.{length-filled}
+use Rattle.track.specs.Track.{known}
+use Rattle.track.proofs.Lost.{length-known}
 use Rattle.repair.proofs.Stretches.{has-track, Restoring, restoring-none, restoring-by, restoring-back, restored}
 use Rattle.repair.proofs.restore.Statement.{statement}
 use Rattle.repair.proofs.restore.Tie as tie
 
 abbrev Inv-loop : tie.InvT-loop
-Inv-loop marks image out₀ lost l all g₀ out g = (g ≤ all) × Restoring l all marks (filled lost image) out g
+Inv-loop marks image out₀ l all g₀ out g = (g ≤ all) × Restoring l all marks (known image) out g
 
 abbrev μ-loop : tie.MeasureT-loop
-μ-loop marks image out₀ lost l all g₀ out g = all - g
+μ-loop marks image out₀ l all g₀ out g = all - g
 
 add-l : tie.Need-add-l Inv-loop μ-loop
 add-l c = search needs
@@ -43,7 +43,7 @@ restore-track-requires c κs =
     let l = c .before .before .before .before .loop in
     let s = c .before .before .before .before .before .before .before .before .before .before .before in
     let h = has-track _ _ _ _ (s .pre .0) (l .g) (omega arith) in
-    let e = length-filled (s .args .lost) (now (s .args .image)) in
+    let e = length-known (now (s .args .image)) in
     (record { room = rw e at (h .room); sizes = l .inv .1 .size ∙ e }, s .pre .1)
 
 add-g : tie.Need-add-g Inv-loop μ-loop

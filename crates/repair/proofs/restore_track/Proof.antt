@@ -10,26 +10,26 @@ mul-start c = search needs
 add-end : tie.Need-add-end
 add-end c = search needs
 
-sub-copy-filled : tie.Need-sub-copy-filled
-sub-copy-filled c = search needs
+sub-copy-known : tie.Need-sub-copy-known
+sub-copy-known c = search needs
 
-part-copy-filled-start : tie.Need-part-copy-filled-start
-part-copy-filled-start c = search needs
+part-copy-known-start : tie.Need-part-copy-known-start
+part-copy-known-start c = search needs
 
-part-copy-filled-end : tie.Need-part-copy-filled-end
-part-copy-filled-end c = search needs
+part-copy-known-end : tie.Need-part-copy-known-end
+part-copy-known-end c = search needs
 
-sub-copy-filled-2 : tie.Need-sub-copy-filled-2
-sub-copy-filled-2 c = search needs
+sub-copy-known-2 : tie.Need-sub-copy-known-2
+sub-copy-known-2 c = search needs
 
-part-copy-filled-start-2 : tie.Need-part-copy-filled-start-2
-part-copy-filled-start-2 c = search needs
+part-copy-known-start-2 : tie.Need-part-copy-known-start-2
+part-copy-known-start-2 c = search needs
 
-part-copy-filled-end-2 : tie.Need-part-copy-filled-end-2
-part-copy-filled-end-2 c = search needs
+part-copy-known-end-2 : tie.Need-part-copy-known-end-2
+part-copy-known-end-2 c = search needs
 
-copy-filled-requires : tie.Need-copy-filled-requires
-copy-filled-requires c κs =
+copy-known-requires : tie.Need-copy-known-requires
+copy-known-requires c κs =
     let p = c .before .before .before .before .pre in
     (search needs, part-readings _ _ _ (p .0 .room) (p .1))
 
@@ -37,7 +37,7 @@ same-length : tie.Need-same-length
 same-length c = search needs
 
 returns : tie.Need-returns
-returns c = track-back _ _ _ _ (c .before .before .before .before .before .before .before .pre .0) _ _ (c .before .before .copy-filled .ensures)
+returns c = track-back _ _ _ _ (c .before .before .before .before .before .before .before .pre .0) _ (c .before .before .copy-known .ensures)
 
 pub restore-track-spec : {M : Type 1} → statement M
 restore-track-spec =
@@ -45,12 +45,12 @@ restore-track-spec =
     (tie.spec
     mul-start
     add-end
-    sub-copy-filled
-    part-copy-filled-start
-    part-copy-filled-end
-    sub-copy-filled-2
-    part-copy-filled-start-2
-    part-copy-filled-end-2
-    copy-filled-requires
+    sub-copy-known
+    part-copy-known-start
+    part-copy-known-end
+    sub-copy-known-2
+    part-copy-known-start-2
+    part-copy-known-end-2
+    copy-known-requires
     same-length
     returns)

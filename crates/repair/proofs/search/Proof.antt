@@ -5,21 +5,21 @@ use Prim.Native.Nat.{_+_, _-_, _≤_}
 use native.Mathlib.Omega.{arith}
 use borrow.Author.Needs.{needs}
 use lib.ListN.{length}
-use Rattle.track.specs.Track.{filled}
+use Rattle.track.specs.Track.{known}
 use Rattle.repair.proofs.Searching.{Seeking, seeking-none, seeking-more, seeking-row, seeking-all, searched}
 use Rattle.repair.proofs.search.Statement.{statement}
 use Rattle.repair.proofs.search.Tie as tie
 
 abbrev Inv-loop : tie.InvT-loop
 Inv-loop z code marks image out₀ first syn₀ in-a in-b found₀ a b₀ out syn found b =
-    (b ≤ in-b + 1) × (found ≡ false) × Seeking z code marks (filled 0 image) first a b out syn
+    (b ≤ in-b + 1) × (found ≡ false) × Seeking z code marks (known image) first a b out syn
 
 abbrev μ-loop : tie.MeasureT-loop
 μ-loop z code marks image out₀ first syn₀ in-a in-b found₀ a b₀ out syn found b = in-b + 1 - b
 
 abbrev Inv-search : tie.InvT-search
 Inv-search z code marks image out₀ first syn₀ in-a in-b found₀ a₀ b₀ out syn found a b =
-    (a ≤ in-a + 1) × (found ≡ false) × Seeking z code marks (filled 0 image) first a 0 out syn
+    (a ≤ in-a + 1) × (found ≡ false) × Seeking z code marks (known image) first a 0 out syn
 
 abbrev μ-search : tie.MeasureT-search
 μ-search z code marks image out₀ first syn₀ in-a in-b found₀ a₀ b₀ out syn found a b = in-a + 1 - a

@@ -72,7 +72,9 @@ slice-aggregate-trace-record : tie.Need-slice-aggregate-trace-record
 slice-aggregate-trace-record c = sym (length-take-le _ _ (has-room _ _ _ _ (passes (c .before .before .before .before .before .before))))
 
 trace-record-requires : tie.Need-trace-record-requires
-trace-record-requires c κs = (given _ _ _ _ (passes (c .before .before .before .before .before .before)) _ _ (c .before .before .before .before .before .marks-of .ensures) (c .before .before .before .before .mark-lost .ensures) (coded (c .before)), c .before .before .code-of .ensures)
+trace-record-requires c κs =
+    let p = passes (c .before .before .before .before .before .before) in
+    (given _ _ _ _ p _ _ (c .before .before .before .before .before .marks-of .ensures) (c .before .before .before .before .mark-lost .ensures) (coded (c .before)), (c .before .before .code-of .ensures, c .before .before .before .before .before .before .before .before .before .check .ensures .1 (c .before .before .before .before .before .before .if1 .left)))
 
 same-length : tie.Need-same-length
 same-length c = search needs

@@ -13,7 +13,7 @@ make-plan-requires-2 : tie.Need-make-plan-requires-2
 make-plan-requires-2 c κs = let w = c .before .before .before .before .before .pre .0 in (w .kept .small, (omega arith, (w .marks-size, w .within .in-set B)))
 
 solve-requires : tie.Need-solve-requires
-solve-requires c κs = workable-kept _ _ _ _ _ _ (c .before .before .before .before .before .before .before .before .pre .0)
+solve-requires c κs = workable-kept _ _ _ _ _ (c .before .before .before .before .before .before .before .before .pre .0)
 
 same-length : tie.Need-same-length
 same-length c = search needs
@@ -24,13 +24,13 @@ same-length-2 c = search needs
 returns : tie.Need-returns
 returns c =
     let p = c .before .before .before .before .before .before .before .before in
-    worked-good _ _ _ _ _ _ (c .before .before .before .before .before .before .before .before .before .before .before .before .before .before .pre .0) _ _ (p .before .make-plan .ensures .0) (p .make-plan2 .ensures .0) _ _ _ (c .before .before .before .before .before .solve .ensures) (c .if1 .taken)
+    worked-good _ _ _ _ _ (c .before .before .before .before .before .before .before .before .before .before .before .before .before .before .pre .0) _ _ (p .before .make-plan .ensures .0) (p .make-plan2 .ensures .0) _ _ _ (c .before .before .before .before .before .solve .ensures) (c .if1 .taken)
 
 restore-requires : tie.Need-restore-requires
 restore-requires c κs =
     let p = c .before .before .before .before .before .before .before .before .before in
     let given = c .before .before .before .before .before .before .before .before .before .before .before .before .before .before .before .pre in
-    (solved-only _ _ _ _ _ _ (given .0) _ _ (p .before .make-plan .ensures .0) (p .make-plan2 .ensures .0) _ _ _ (c .before .before .before .before .before .before .solve .ensures), given .1)
+    (solved-only _ _ _ _ _ (given .0) _ _ (p .before .make-plan .ensures .0) (p .make-plan2 .ensures .0) _ _ _ (c .before .before .before .before .before .before .solve .ensures), given .1)
 
 same-length-3 : tie.Need-same-length-3
 same-length-3 c = search needs
@@ -42,7 +42,7 @@ returns-2 : tie.Need-returns-2
 returns-2 c =
     let p = c .before .before .before .before .before .before .before .before .before .before .before .before .make-plan2 .ensures in
     let q = c .before .before .before .before .before .before .before .before .before .before .before .before .before .make-plan .ensures in
-    worked-none _ _ _ _ _ _ (c .before .before .before .before .before .before .before .before .before .before .before .before .before .before .before .before .before .before .pre .0) _ _ (q .0) (p .0) _ _ _ (c .before .before .before .before .before .before .before .before .before .solve .ensures) (c .before .before .before .before .if1 .left) (q .1) (p .1) _ (c .before .before .restore .ensures)
+    worked-none _ _ _ _ _ (c .before .before .before .before .before .before .before .before .before .before .before .before .before .before .before .before .before .before .pre .0) _ _ (q .0) (p .0) _ _ _ (c .before .before .before .before .before .before .before .before .before .solve .ensures) (c .before .before .before .before .if1 .left) (q .1) (p .1) _ (c .before .before .restore .ensures)
 
 pub work-spec : {M : Type 1} → statement M
 work-spec =
