@@ -51,15 +51,15 @@ static size_t first_bad_cell(const uint8_t *s, uint8_t values)
     return i;
 }
 
-/* Copies cells, and `fill` for each lost one: a plain copy where that is a lost cell too. */
-static inline void copy_filled(uint8_t *restrict out, const uint8_t *restrict source, size_t n, uint8_t fill)
+/* Makes a working copy, in which a lost cell is 0: a plain copy where none is lost. */
+static inline void copy_known(uint8_t *restrict out, const uint8_t *restrict source, size_t n, bool lost)
 {
-    if (fill == AXP_LOST) {
+    if (!lost) {
         memcpy(out, source, n);
         return;
     }
     for (size_t i = 0; i < n; i++)
-        out[i] = source[i] == AXP_LOST ? fill : source[i];
+        out[i] = source[i] == 1;
 }
 
 /* The number of places at which two stretches differ: few enough that a byte holds it. */
@@ -620,12 +620,12 @@ static size_t count_track(const uint8_t *image, const uint8_t *out, size_t l, si
     return count_differing(image + g * l, out + g * l, l);
 }
 
-/* Copies the marked tracks of the image back, of which alone any are changed, with `fill` for each lost cell. */
-static void restore(const uint8_t marks[ALL], const uint8_t *restrict image, uint8_t *restrict out, size_t l, uint8_t fill)
+/* Makes the marked tracks of a working copy anew, of which alone any are changed. */
+static void restore(const uint8_t marks[ALL], const uint8_t *restrict image, uint8_t *restrict out, size_t l, bool lost)
 {
     for (size_t g = 0; g < ALL; g++)
         if (marks[g] == 1)
-            copy_filled(out + g * l, image + g * l, l, fill);
+            copy_known(out + g * l, image + g * l, l, lost);
 }
 
 /* The extra that is named: a track that was changed. */
@@ -654,20 +654,21 @@ static axp_result answer_of(const uint8_t marks[ALL], const uint8_t *image, cons
 
 /* ---- repairer */
 
-/* What a working copy has for a lost cell: 0. Without any it is a plain copy. */
-static inline uint8_t working(bool lost)
+/* Makes the image of a working copy. */
+static void put_back(const uint8_t *restrict image, uint8_t *restrict out, size_t len, bool lost)
 {
-    return lost ? 0 : AXP_LOST;
+    if (lost)
+        memcpy(out, image, len);
 }
 
-/* Solves a working copy by the marked tracks. Where there is no good record the output is the image with `fill`. */
+/* Solves a working copy by the marked tracks. Where there is no good record the output is the working copy again. */
 static bool work(const uint8_t marks[ALL], const uint8_t *restrict image, uint8_t *restrict out, uint8_t *restrict syn, size_t l,
-                 uint8_t fill)
+                 bool lost)
 {
     plan a = make_plan(marks, 0), b = make_plan(marks, 1);
     if (solve(out, syn, l, a, b))
         return true;
-    restore(marks, image, out, l, fill);
+    restore(marks, image, out, l, lost);
     return false;
 }
 
@@ -685,10 +686,11 @@ axp_result plain_repair(uint32_t blocks, uint32_t flags, const uint8_t *restrict
         mark_lost(marks, image, l);
     if (code_of(marks) == 0)
         return answer(6, 0);
-    copy_filled(out, image, image_len, working(lost));
+    copy_known(out, image, image_len, lost);
     syndromes(out, l, syn);
-    if (work(marks, image, out, syn, l, AXP_LOST))
+    if (work(marks, image, out, syn, l, lost))
         return answer_of(marks, image, out, l, 0, 0);
+    put_back(image, out, image_len, lost);
     return answer(7, 0);
 }
 
@@ -739,7 +741,7 @@ axp_result plain_trace(uint32_t blocks, uint32_t flags, const uint8_t *restrict 
     uint8_t code = code_of(marks);
     if (code == 0)
         return answer(6, 0);
-    copy_filled(out, image, image_len, working(lost));
+    copy_known(out, image, image_len, lost);
     syndromes(out, l, first);
     for (size_t a = 0; a <= TRACKS; a++)
         for (size_t b = 0; b <= TRACKS; b++) {
@@ -747,9 +749,9 @@ axp_result plain_trace(uint32_t blocks, uint32_t flags, const uint8_t *restrict 
                 continue;
             widen(marks, a, b, wide);
             memcpy(syn, first, 4 * l);
-            if (work(wide, image, out, syn, l, working(lost)))
+            if (work(wide, image, out, syn, l, lost))
                 return answer_of(wide, image, out, l, a, b);
         }
-    restore(marks, image, out, l, AXP_LOST);
+    put_back(image, out, image_len, lost);
     return answer(7, 0);
 }

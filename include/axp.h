@@ -57,6 +57,9 @@ extern "C" {
 #define AXP_MAX_PAYLOAD_SIZE 3584
 #define AXP_MAX_PACKED_SIZE 4644
 
+/* A cell that the drive could not read. */
+#define AXP_LOST 2
+
 /* `extra_a` or `extra_b` where no extra track is named. */
 #define AXP_NO_EXTRA 4294967295u
 

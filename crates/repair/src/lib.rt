@@ -1,9 +1,9 @@
 // Repairer and tracer.
+use checks::Checked;
 use code::Answer;
 use code::Extra;
 use code::Sizes;
 use code::plain_answer;
-use checks::Checked;
 ghost use mathlib.Core.Path.{_≡_};
 ghost use Prim.Native.Nat.{_+_, _*_, _≤_};
 ghost use lib.ListN.{length};
@@ -79,10 +79,10 @@ fn track_lost(image: &[u8], l: usize, g: usize) -> bool
 }
 
 // The mark of a track with this mark, which has a lost cell or not.
-fn lost_mark(x: u8, lost: bool) -> u8
-    ensures { λ r. ⌜ r ≡ pick lost 1 x ⌝ }
+fn lost_mark(x: u8, found: bool) -> u8
+    ensures { λ r. ⌜ r ≡ pick found 1 x ⌝ }
 {
-    if lost { 1 } else { x }
+    if found { 1 } else { x }
 }
 
 // The marks, and those of the tracks with a lost cell. An image without one is not scanned again.
@@ -336,8 +336,7 @@ pub fn repair(blocks: u32, flags: u32, image: &[u8], out: &mut [u8]) -> Answer
     };
     let word = marks_of(flags);
     let marks = mark_lost(z, word, image, seen.lost);
-    let code = code_of(z, &marks);
-    if code == 0 {
+    if code_of(z, &marks) == 0 {
         return plain_answer(6, 0);
     }
     repair_record(z, marks, image, &mut out[..18 * (8 * n + 15)], seen.lost)
@@ -538,5 +537,12 @@ pub fn trace(blocks: u32, flags: u32, image: &[u8], out: &mut [u8]) -> Answer
     if code == 0 {
         return plain_answer(6, 0);
     }
-    trace_record(z, code, marks, image, &mut out[..18 * (8 * n + 15)], seen.lost)
+    trace_record(
+        z,
+        code,
+        marks,
+        image,
+        &mut out[..18 * (8 * n + 15)],
+        seen.lost,
+    )
 }

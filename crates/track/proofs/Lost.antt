@@ -64,7 +64,10 @@ module _ (xs : List ℕ) (most : ℕ) (h : Highest xs most) (r : Readings xs) wh
     where
       go : (b c : Bool) → is-lost most ≡ b → any (length xs) (λ m. is-lost (getD xs m 0)) ≡ c → b ≡ c
       go true true p q = refl
-      go true false p q = absurd (omega (arith, eqb-true most 2 p,
-          h .least 1 (λ i l. omega (arith, known-bit (getD xs i 0) (r .reading i) (none-flagged (length xs) (λ m. is-lost (getD xs m 0)) q i l)))))
+      go true false p q = absurd (omega (
+        arith,
+        eqb-true most 2 p,
+        h .least 1 (λ i l. omega (arith, known-bit (getD xs i 0) (r .reading i) (none-flagged (length xs) (λ m. is-lost (getD xs m 0)) q i l))),
+      ))
       go false true p q = absurd (true≢false (sym q ∙ any-none (length xs) (λ m. is-lost (getD xs m 0)) (λ i l. bit-known (getD xs i 0) (omega (arith, known-bit most most-reading p, h .above i)))))
       go false false p q = refl

@@ -82,9 +82,9 @@ pub fn copy_known(out: &mut [u8], source: &[u8])
     requires { ⌜ Readings (now source) ⌝ }
     ensures { λ _. ⌜ Copied (known (now (source .entry))) (now (out .entry)) (now (out .exit)) ⌝ }
 {
-    let n = source.len();
+    let l = source.len();
     let mut i = 0;
-    while i < n {
+    while i < l {
         out[i] = known_cell(source[i]);
         i += 1;
     }

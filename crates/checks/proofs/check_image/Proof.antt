@@ -48,8 +48,7 @@ plain-answer-requires c κs = search needs
 returns-2 : tie.Need-returns-2
 returns-2 c =
     let b = c .before .before in
-    let bad = b .first-bad-cell .ensures in
-    (
+    let bad = b .first-bad-cell .ensures in (
       next-refuses (size-checks _ _ _ _ _) (cell-check _ _) _ (passed (b .before .before)) (rw bad at (c .before .if2 .taken)) (c .plain-answer .ensures ∙ ap (plain 4) bad),
       λ z. absurd (omega (arith, z, ap answer-of (c .plain-answer .ensures))),
     )
@@ -66,8 +65,7 @@ is-lost-requires c κs =
 returns-3 : tie.Need-returns-3
 returns-3 c =
     let b = c .before .before in
-    let p = b .before .before .before .before .before .before .before .pre in
-    (
+    let p = b .before .before .before .before .before .before .before .pre in (
       next-passes (size-checks _ _ _ _ _) (cell-check _ _) _ (passed (b .before .before .before)) (good b) (c .before .plain-answer2 .ensures),
       λ z. told _ _ (b .before .before .highest .ensures) (omega (arith, p .0, p .1 .0, most-lt _ _ (b .before .before .highest .ensures) _ (omega (arith, p .0)) (good b))) _ (c .is-lost .ensures),
     )

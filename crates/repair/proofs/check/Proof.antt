@@ -39,21 +39,19 @@ plain-answer-requires : tie.Need-plain-answer-requires
 plain-answer-requires c κs = search needs
 
 returns-2 : tie.Need-returns-2
-returns-2 c =
-    (
-      next-refuses (image-checks _ _ _ _ _ _) (flag-check (base (c .before .before .before .before .before .before .before .args .blocks)) _) _ (passed (c .before .before)) (c .before .if2 .taken) (c .plain-answer .ensures),
-      λ z. absurd (omega (arith, z, ap answer-of (c .plain-answer .ensures))),
-    )
+returns-2 c = (
+  next-refuses (image-checks _ _ _ _ _ _) (flag-check (base (c .before .before .before .before .before .before .before .args .blocks)) _) _ (passed (c .before .before)) (c .before .if2 .taken) (c .plain-answer .ensures),
+  λ z. absurd (omega (arith, z, ap answer-of (c .plain-answer .ensures))),
+)
 
 plain-answer-requires-2 : tie.Need-plain-answer-requires-2
 plain-answer-requires-2 c κs = search needs
 
 returns-3 : tie.Need-returns-3
-returns-3 c =
-    (
-      next-passes (image-checks _ _ _ _ _ _) (flag-check (base (c .before .before .before .before .before .before .before .args .blocks)) _) _ (passed (c .before .before)) (λ h. omega (arith, c .before .if2 .left)) (c .plain-answer2 .ensures),
-      λ z. c .before .before .before .before .before .check-image .ensures .1 (c .before .before .if1 .left),
-    )
+returns-3 c = (
+  next-passes (image-checks _ _ _ _ _ _) (flag-check (base (c .before .before .before .before .before .before .before .args .blocks)) _) _ (passed (c .before .before)) (λ h. omega (arith, c .before .if2 .left)) (c .plain-answer2 .ensures),
+  λ z. c .before .before .before .before .before .check-image .ensures .1 (c .before .before .if1 .left),
+)
 
 pub check-spec : {M : Type 1} → statement M
 check-spec =

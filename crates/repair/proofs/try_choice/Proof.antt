@@ -26,9 +26,11 @@ slice-aggregate-work c = search needs
 work-requires : tie.Need-work-requires
 work-requires c κs =
     let s = c .before .before .before .before .before .before .before .before .before .before .before .before .before .before in
-    let e = c .before .before .before .before .before .before .before .before in
-    (choice-workable _ _ _ _ _ (s .pre .0) _ _ (c .before .before .before .before .before .before .before .widen .ensures) (e .before .allows .ensures .yes-allowed (not-false _ (e .if1 .left))) _ _ (s .pre .1 .0)
-    (copied-all _ _ _ (c .before .before .before .before .before .copy-into .ensures) (sym (s .pre .1 .1 .0))), s .pre .1 .1 .1 .1)
+    let e = c .before .before .before .before .before .before .before .before in (
+      choice-workable _ _ _ _ _ (s .pre .0) _ _ (c .before .before .before .before .before .before .before .widen .ensures) (e .before .allows .ensures .yes-allowed (not-false _ (e .if1 .left))) _ _ (s .pre .1 .0)
+          (copied-all _ _ _ (c .before .before .before .before .before .copy-into .ensures) (sym (s .pre .1 .1 .0))),
+      s .pre .1 .1 .1 .1,
+    )
 
 same-length : tie.Need-same-length
 same-length c = search needs
