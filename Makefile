@@ -21,6 +21,7 @@ SHARED = libaxp.so.$(VERSION)
 
 SOURCES = crates.txt $(shell find crates -name '*.rt' -o -name '*.antt')
 SAMPLE = 16 36900 samples/damaged.img
+LOST_SAMPLE = 16 0 samples/lost.img
 
 all: build/libaxp.a build/libaxp.so build/axp
 
@@ -55,11 +56,12 @@ build/sample: tools/sample.c include/axp.h build/libaxp.a
 
 demo: build/repair build/picture
 	build/repair $(SAMPLE)
+	build/repair $(LOST_SAMPLE)
 	build/picture $(SAMPLE) >build/picture.svg
 	@echo 'the record by track and position, damaged and repaired: build/picture.svg'
 
 sample: build/sample
-	build/sample samples/text.txt samples/good.img samples/damaged.img
+	build/sample samples/text.txt samples/good.img samples/damaged.img samples/lost.img
 
 docs/picture.svg: build/picture samples/damaged.img
 	build/picture $(SAMPLE) >$@

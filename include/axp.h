@@ -16,6 +16,10 @@
  * g (t for track t of A, 9 + t for track t of B) begins at byte g * L. Its payload is 14 bytes a
  * block.
  *
+ * A cell that a drive could not read is marked with 2 (AXP_LOST). Repairer and tracer take the track of
+ * a lost cell as flagged, as if its bit of the flag word were set, and fill the cell; the reader takes
+ * an image with a lost cell as not good; a lost cell cannot be packed.
+ *
  * An image's packed form is 18 * (n + 2) bytes, its tracks in head order, A0, B0, A1, B1, to A8, B8:
  * track t of A begins at byte 2t * (n + 2), track t of B at byte (2t + 1) * (n + 2). A track takes
  * n + 2 bytes, eight cells a byte, the first cell most significant: cell m is the bit of value
@@ -37,7 +41,7 @@ extern "C" {
 
 /* The version of this header and of the library that it was made for. */
 #define AXP_VERSION_MAJOR 0
-#define AXP_VERSION_MINOR 2
+#define AXP_VERSION_MINOR 3
 #define AXP_VERSION_PATCH 0
 
 /* The most blocks of a record. */
@@ -75,11 +79,12 @@ enum axp_answer {
                             (unpacking) or an image (the others) of that block count */
     AXP_OUTPUT_SHORT = 3,/* the output is shorter than a payload (reader), a packed form (packing) or an
                             image (the others) of that block count */
-    AXP_CELL_VALUE = 4,  /* the image has a cell that is neither 0 nor 1, in a flagged track or not;
-                            `detail` is the index of the first one */
+    AXP_CELL_VALUE = 4,  /* the image has a cell above 2 (reader, repairer, tracer) or above 1
+                            (packing), in a flagged track or not; `detail` is the index of the first
+                            one */
     AXP_FLAG_BIT = 5,    /* the flag word has a bit from 18 up */
-    AXP_TOO_MANY = 6,    /* more flagged tracks than the code can repair: more than three in a set, or
-                            more than four in all */
+    AXP_TOO_MANY = 6,    /* more flagged tracks, with those that have a lost cell, than the code can
+                            repair: more than three in a set, or more than four in all */
     AXP_NO_RECORD = 7,   /* no good record is in reach; for the reader: the image is not good */
     AXP_PADDING = 8      /* a padding bit of the packed form is 1 */
 };
@@ -91,10 +96,11 @@ enum axp_answer {
  * detail   with AXP_CELL_VALUE the index of the first bad cell in the image, else 0.
  * mask     from repair and tracing with answer 0: bit g is set exactly if some cell of track number g
  *          differs between output and image. Else 0.
- * cells    from repair and tracing with answer 0: the number of cells that differ. Else 0.
+ * cells    from repair and tracing with answer 0: the number of cells that differ. Else 0. A lost cell
+ *          is 2 in the image and 0 or 1 in the output: it differs, whichever it becomes.
  * extra_a, from tracing with answer 0: the track number (0 to 8 in A, 9 to 17 in B) of the changed
- * extra_b  track of the set that was not flagged, or AXP_NO_EXTRA where there is none. Else
- *          AXP_NO_EXTRA.
+ * extra_b  track of the set that was not flagged and has no lost cell, or AXP_NO_EXTRA where there is
+ *          none. Else AXP_NO_EXTRA.
  */
 typedef struct axp_result {
     uint32_t answer;
@@ -132,9 +138,10 @@ axp_result axp_encode(uint32_t blocks, const uint8_t *payload, size_t payload_le
 /*
  * Reads the payload of a good record.
  *
- * image    AXP_IMAGE_SIZE(blocks) bytes, each 0 or 1.
+ * image    AXP_IMAGE_SIZE(blocks) bytes, each 0, 1 or AXP_LOST.
  * out      with answer 0 its first AXP_PAYLOAD_SIZE(blocks) bytes are the payload. With
- *          AXP_NO_RECORD, given exactly if the image is not a good record, it stays as it came.
+ *          AXP_NO_RECORD, given exactly if the image is not a good record (one with a lost cell is
+ *          not), it stays as it came.
  *
  * Answers: AXP_OK, AXP_BLOCK_COUNT, AXP_INPUT_LENGTH, AXP_OUTPUT_SHORT, AXP_CELL_VALUE, AXP_NO_RECORD.
  */
@@ -143,11 +150,12 @@ axp_result axp_read(uint32_t blocks, const uint8_t *image, size_t image_len, uin
 /*
  * Repairs the flagged tracks of an image.
  *
- * flags    bit g flags track number g: its cells are not trusted.
- * image    AXP_IMAGE_SIZE(blocks) bytes, each 0 or 1, in flagged tracks too.
+ * flags    bit g flags track number g: its cells are not trusted. A track with a lost cell is flagged
+ *          too, bit or no bit; AXP_TOO_MANY goes by both.
+ * image    AXP_IMAGE_SIZE(blocks) bytes, each 0, 1 or AXP_LOST, in flagged tracks too.
  * out      with answer 0 its first AXP_IMAGE_SIZE(blocks) bytes are the one good record that equals
  *          the image on every track that is not flagged; there is no other. With AXP_NO_RECORD, given
- *          exactly if there is no such record, they are a copy of the image.
+ *          exactly if there is no such record, they are a copy of the image, its lost cells among them.
  *
  * Answers: AXP_OK and 1 to 7.
  */
@@ -156,13 +164,16 @@ axp_result axp_repair(uint32_t blocks, uint32_t flags, const uint8_t *image, siz
 /*
  * Repairs the flagged tracks of an image, and extra tracks that were not flagged.
  *
- * The flags allow so many extra tracks (flagged tracks in A, in B: extras):
+ * The flags allow so many extra tracks (flagged tracks in A, in B, those with a lost cell among them:
+ * extras):
  *     0,0: one in each set; 1,0 and 0,1 and 1,1: one in all; 2,0: one in B; 0,2: one in A;
  *     any other pair that is repaired: none.
  *
+ * flags, image   as in axp_repair.
  * out      with answer 0 its first AXP_IMAGE_SIZE(blocks) bytes are the one good record that differs
  *          from the image only in flagged tracks and in extra tracks so allowed; there is no other.
- *          With AXP_NO_RECORD, given exactly if there is no such record, they are a copy of the image.
+ *          With AXP_NO_RECORD, given exactly if there is no such record, they are a copy of the image,
+ *          its lost cells among them.
  *
  * Answers: AXP_OK and 1 to 7.
  */
@@ -171,7 +182,7 @@ axp_result axp_trace(uint32_t blocks, uint32_t flags, const uint8_t *image, size
 /*
  * Packs an image, good record or not.
  *
- * image    AXP_IMAGE_SIZE(blocks) bytes, each 0 or 1.
+ * image    AXP_IMAGE_SIZE(blocks) bytes, each 0 or 1: AXP_LOST has no packed form and is AXP_CELL_VALUE.
  * out      with answer 0 its first AXP_PACKED_SIZE(blocks) bytes are the image's packed form, the
  *          padding bits 0. axp_unpack accepts them and gives the image back.
  *
@@ -209,7 +220,7 @@ static inline const char *axp_strerror(uint32_t answer)
     case AXP_BLOCK_COUNT: return "the block count is not 1 to 256";
     case AXP_INPUT_LENGTH: return "the input has the wrong length";
     case AXP_OUTPUT_SHORT: return "the output is too short";
-    case AXP_CELL_VALUE: return "a cell is neither 0 nor 1";
+    case AXP_CELL_VALUE: return "a cell has a value that the call does not take";
     case AXP_FLAG_BIT: return "the flag word has a bit past the last track";
     case AXP_TOO_MANY: return "too many flagged tracks";
     case AXP_NO_RECORD: return "no good record is in reach";

@@ -3,7 +3,8 @@
  *
  *     picture BLOCKS FLAGS IMAGE
  *
- * A dark cell is 1. In the upper picture cells that the repair changes are red, in the lower one green.
+ * A dark cell is 1. In the upper picture cells that the repair changes are red, and lost ones yellow; in the lower one the
+ * changed cells are green.
  */
 #include <axp.h>
 
@@ -14,7 +15,7 @@ enum { SIDE = 6, LEFT = 40, TOP = 30 };
 
 static uint8_t image[AXP_MAX_IMAGE_SIZE + 1], out[AXP_MAX_IMAGE_SIZE];
 
-/* The cells of one kind, as one path: 0 dark cells, 1 changed cells that are 1, 2 changed cells that are 0. */
+/* The cells of one kind, as one path: 0 dark cells, 1 changed cells that are 1, 2 changed cells that are 0, 3 lost cells. */
 static void path(const uint8_t *cells, size_t l, unsigned top, int kind, const char *style)
 {
     unsigned g;
@@ -25,7 +26,7 @@ static void path(const uint8_t *cells, size_t l, unsigned top, int kind, const c
         for (m = 0; m < l; m++) {
             size_t i = g * l + m;
             int differs = image[i] != out[i];
-            if (kind == (differs ? 2 - cells[i] : cells[i] ? 0 : -1))
+            if (kind == (cells[i] == AXP_LOST ? 3 : differs ? 2 - cells[i] : cells[i] ? 0 : -1))
                 printf("M%lu %uh%dv%dh-%dz", (unsigned long)(LEFT + m * SIDE), y, SIDE - 1, SIDE, SIDE - 1);
         }
     }
@@ -48,6 +49,7 @@ static void draw(const uint8_t *cells, size_t l, uint32_t flags, unsigned top, c
     path(cells, l, top, 1, style);
     sprintf(style, "fill=\"#ffffff\" stroke=\"%s\"", changed);
     path(cells, l, top, 2, style);
+    path(cells, l, top, 3, "fill=\"#ffc300\"");
 }
 
 int main(int argc, char **argv)
@@ -74,7 +76,7 @@ int main(int argc, char **argv)
     printf("<svg xmlns=\"http://www.w3.org/2000/svg\" width=\"%lu\" height=\"%u\" font-family=\"sans-serif\" font-size=\"9\">\n",
            (unsigned long)(LEFT + l * SIDE + 10), 2 * height + 2 * TOP + 20);
     printf("<rect width=\"100%%\" height=\"100%%\" fill=\"#ffffff\"/>\n");
-    draw(image, l, flags, TOP, "what was read (red: cells that the repair changes; red names: flagged tracks)", "#d62839");
+    draw(image, l, flags, TOP, "what was read (red: cells that the repair changes; yellow: lost cells; red names: flagged tracks)", "#d62839");
     draw(out, l, flags, TOP + height + TOP + 10, "the one good record in reach (green: the cells that were changed)", "#2a9d4a");
     printf("</svg>\n");
     return 0;

@@ -1,10 +1,11 @@
 /*
- * Makes the sample: the image of a text, with damage that a drive does.
+ * Makes the samples: the image of a text, with damage that a drive does.
  *
- *     sample TEXT GOOD DAMAGED
+ *     sample TEXT GOOD DAMAGED LOST
  *
  * TEXT is encoded, padded with spaces to whole blocks. GOOD is its image. In DAMAGED two tracks of set A hold noise, a
- * track of set B has a burst and another a lost stretch.
+ * track of set B has a burst and another reads 0 for a while. In LOST a burst of cells in a track of each set, and the last
+ * cell of another of A, could not be read.
  */
 #include <axp.h>
 
@@ -12,7 +13,7 @@
 #include <stdlib.h>
 #include <string.h>
 
-static uint8_t payload[AXP_MAX_PAYLOAD_SIZE], image[AXP_MAX_IMAGE_SIZE];
+static uint8_t payload[AXP_MAX_PAYLOAD_SIZE], image[AXP_MAX_IMAGE_SIZE], lost[AXP_MAX_IMAGE_SIZE];
 static uint32_t state = 7;
 
 static uint8_t bit(void)
@@ -21,10 +22,10 @@ static uint8_t bit(void)
     return state >> 31;
 }
 
-static int save(const char *path, size_t size)
+static int save(const char *path, const uint8_t *bytes, size_t size)
 {
     FILE *f = fopen(path, "wb");
-    return f && fwrite(image, 1, size, f) == size && fclose(f) == 0;
+    return f && fwrite(bytes, 1, size, f) == size && fclose(f) == 0;
 }
 
 int main(int argc, char **argv)
@@ -32,8 +33,8 @@ int main(int argc, char **argv)
     size_t length, l, m, size;
     uint32_t blocks;
     FILE *f;
-    if (argc != 4 || !(f = fopen(argv[1], "rb"))) {
-        fprintf(stderr, "usage: sample TEXT GOOD DAMAGED\n");
+    if (argc != 5 || !(f = fopen(argv[1], "rb"))) {
+        fprintf(stderr, "usage: sample TEXT GOOD DAMAGED LOST\n");
         return 2;
     }
     memset(payload, ' ', sizeof payload);
@@ -42,7 +43,13 @@ int main(int argc, char **argv)
     blocks = (uint32_t)((length + 13) / 14);
     l = AXP_TRACK_LENGTH(blocks);
     size = AXP_IMAGE_SIZE(blocks);
-    if (axp_encode(blocks, payload, AXP_PAYLOAD_SIZE(blocks), image, sizeof image).answer != AXP_OK || !save(argv[2], size))
+    if (axp_encode(blocks, payload, AXP_PAYLOAD_SIZE(blocks), image, sizeof image).answer != AXP_OK || !save(argv[2], image, size))
+        return 1;
+    memcpy(lost, image, size);
+    memset(lost + 4 * l + l / 4, AXP_LOST, l / 3);
+    memset(lost + (9 + 1) * l + l / 3, AXP_LOST, l / 5);
+    lost[8 * l + l - 1] = AXP_LOST;
+    if (!save(argv[4], lost, size))
         return 1;
     for (m = 0; m < l; m++) {
         image[2 * l + m] ^= bit();
@@ -52,7 +59,7 @@ int main(int argc, char **argv)
         image[(9 + 3) * l + m] ^= 1;
     for (m = l / 2; m < l; m++)
         image[(9 + 6) * l + m] = 0;
-    if (!save(argv[3], size))
+    if (!save(argv[3], image, size))
         return 1;
     printf("%lu blocks\n", (unsigned long)blocks);
     return 0;
