@@ -1,13 +1,13 @@
 -- The highest byte tells whether a cell is lost.
 use mathlib.Core.Path.{_≡_, sym, _∙_}
 use mathlib.Core.Logic.{by-cases}
-use mathlib.Core.Bool.{Bool, true, false}
+use mathlib.Core.Bool.{Bool}
 use mathlib.Core.List.{List}
 use Prim.Native.Nat.{ℕ, _-_, _<_, _≤_}
 use native.Mathlib.Decide.{decLt}
 use native.Mathlib.Omega.{arith}
 use borrow.Author.Tests.{eqb-true, eqb-false}
-use lib.ListN.{length, getD}
+use lib.ListN.{length}
 use Rattle.code.specs.Lost.{read-values, is-lost}
 use Rattle.code.specs.Numbers.{first-bad}
 use Rattle.code.proofs.Numbers.{first-bad-before}

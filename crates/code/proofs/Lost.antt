@@ -1,23 +1,22 @@
 -- Lost cells: on images without one every relation is the former, and what widened flags say.
 use mathlib.Core.Path.{_≡_, refl, sym, ap, subst₂, fun-ext, _∙_}
-use mathlib.Core.Logic.{by-cases, _↔_}
+use mathlib.Core.Logic.{_↔_}
 use mathlib.Core.Bool.{Bool, true, false, _||_, true≢false}
 use mathlib.Core.List.{List, [], _∷_, _++_}
-use Prim.Native.Nat.{ℕ, zero, suc, _+_, _*_, _<_, _≤_}
-use native.Mathlib.Decide.{decLt}
+use Prim.Native.Nat.{ℕ, zero, suc, _+_, _<_, _≤_}
 use native.Mathlib.Omega.{arith}
 use borrow.Author.Tests.{le-ltb}
-use lib.Dec.{eqb, ltb}
-use lib.ListN.{length, getD}
-use Rattle.code.specs.Record.{TrackSet, A, B, Shape, base, tracks, track-length, Cells, sum}
-use Rattle.code.specs.Image.{track-number, image-size, cells}
+use lib.Dec.{ltb}
+use lib.ListN.{length}
+use Rattle.code.specs.Record.{TrackSet, Shape, base, tracks, track-length}
+use Rattle.code.specs.Image.{image-size, cells}
 use Rattle.code.specs.Payload.{payload-size}
-use Rattle.code.specs.Flags.{TrackFlags, whole, word-flags, bit, flag-count, AgreeOff, any}
-use Rattle.code.specs.Lost.{bit-values, read-values, is-lost, lost-tracks, with-lost}
-use Rattle.code.specs.Reach.{pick, flags-code}
-use Rattle.code.specs.Numbers.{Check, first-bad, cell-check, size-checks, flag-check, reach-check}
-use Rattle.code.specs.Calls.{Result, Answered, ReadOrNot, Repairs, Traces}
-use Rattle.code.specs.Contracts.{ReadBy, WasRead, RepairedBy, TracedBy, call-flags, Repaired, Traced}
+use Rattle.code.specs.Flags.{TrackFlags, whole, word-flags, bit, flag-count, any}
+use Rattle.code.specs.Lost.{bit-values, read-values, is-lost, with-lost}
+use Rattle.code.specs.Reach.{flags-code}
+use Rattle.code.specs.Numbers.{Check, first-bad, size-checks, flag-check, reach-check}
+use Rattle.code.specs.Calls.{Answered, ReadOrNot, Repairs, Traces}
+use Rattle.code.specs.Contracts.{call-flags}
 use Rattle.code.specs.Supply.{AsBefore, NoneLost}
 use Rattle.code.proofs.Patterns.{none-flagged, neither}
 use Rattle.code.proofs.Sums.{sum-le}
@@ -31,14 +30,11 @@ any-none zero f h = refl
 any-none (suc w) f h = rw (any-none w f (λ k l. h k (omega arith))) (h w (omega arith))
 
 module _ (sh : Shape) (f : TrackFlags) (image : List ℕ) where
-  -- Widened flags leave a track clear that the flags leave clear and that has no lost cell, and no other.
-  pub kept-clear : (s : TrackSet) (t : ℕ) → with-lost sh f image s t ≡ false → f s t ≡ false
-  kept-clear s t e = neither (f s t) _ e .0
-
+  -- A track that widened flags leave clear has no lost cell.
   pub none-lost : (s : TrackSet) (t m : ℕ) → with-lost sh f image s t ≡ false → m < track-length sh → is-lost (cells sh image s t m) ≡ false
   none-lost s t m e l = none-flagged (track-length sh) _ (neither (f s t) _ e .1) m l
 
-  -- They flag no fewer tracks.
+  -- Widened flags flag no fewer tracks.
   pub count-widened : (s : TrackSet) → flag-count sh f s ≤ flag-count sh (with-lost sh f image) s
   unfolding flag-count
   count-widened s = sum-le (tracks sh s) _ _ (λ t l. more (f s t) _)

@@ -7,21 +7,20 @@ use native.Mathlib.Omega.{arith}
 use borrow.Rule.Slice.PartMut.{mid-len}
 use lib.Dec.{eqb}
 use lib.ListN.{length, getD, set, take, drop}
-use Rattle.code.specs.Record.{TrackSet, Shape, tracks, track-length}
-use Rattle.code.specs.Image.{track-number, all-tracks, image-size, cells}
-use Rattle.code.specs.Flags.{any}
+use Rattle.code.specs.Record.{track-length}
+use Rattle.code.specs.Image.{track-number, all-tracks}
+use Rattle.code.specs.Flags.{TrackFlags, any}
 use Rattle.code.specs.Lost.{is-lost}
 use Rattle.code.specs.Reach.{pick}
 use Rattle.code.specs.Sizes.{shape, Small}
 use Rattle.code.specs.declared.Sizes.{Sizes}
-use Rattle.code.proofs.Lost.{any-none, bit-known}
+use Rattle.code.proofs.Lost.{bit-known, not-widened}
 use Rattle.code.proofs.Places.{number-lt}
 use Rattle.track.specs.Track.{Readings, Highest}
 use Rattle.track.proofs.Cells.{Written, written-more}
 use Rattle.track.proofs.Lost.{most-reading, most-lost}
 use Rattle.track.proofs.Parts.{part-at}
 use Rattle.solver.specs.Solver.{marked}
-use Rattle.checks.specs.Lost.{LostTold}
 use Rattle.repair.specs.Steps.{lost-at, LostMarked}
 use Rattle.repair.proofs.Stretches.{part-readings}
 
@@ -83,9 +82,5 @@ module _ (z : Sizes) (marks image : List ℕ) (small : Small z) (size-is : lengt
   pub none-marked : ((i : ℕ) → getD image i 0 < 2) → LostMarked (shape z) marks image marks
   none-marked bits = record {
     size = size-is;
-    flags = λ s t l. sym (ap (λ (b : Bool). marked (shape z) marks s t || b) (any-none (track-length (shape z)) _ (λ m b. bit-known _ (bits _))) ∙ or-off _);
+    flags = λ s t l. sym (ap (λ (f : TrackFlags). f s t) (not-widened image (λ i. bit-known _ (bits i)) (shape z) (marked (shape z) marks)));
   }
-    where
-      or-off : (a : Bool) → a || false ≡ a
-      or-off false = refl
-      or-off true = refl

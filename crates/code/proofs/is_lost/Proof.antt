@@ -1,6 +1,5 @@
 use mathlib.Core.Path.{_≡_, sym, ap, _∙_}
 use Rattle.code.specs.Lost.{byte-of, is-lost}
-use Rattle.code.specs.declared.Reading.{Reading}
 use Rattle.code.specs.declared.Reading.the-variants.{Zero, One, Lost}
 use borrow.Author.Needs.{needs}
 use Rattle.code.proofs.is_lost.Statement.{statement}

@@ -1,6 +1,5 @@
 -- `mark_lost`: the loop's invariant is that the first g marks have those of the lost cells, and the rest stay.
-use mathlib.Core.Path.{_≡_, _∙_}
-use Prim.Native.Nat.{_+_, _*_, _≤_, _-_}
+use Prim.Native.Nat.{_≤_, _-_}
 use native.Mathlib.Omega.{arith}
 use borrow.Author.Needs.{needs}
 use denote.Ref.{now}
