@@ -93,7 +93,10 @@ fn constants() {
     let source = file("crates/axp_c/src/lib.rt");
     let none = between(&source, "pub const NO_EXTRA: u32 = ", ";");
     assert!(header.contains(&format!("#define AXP_NO_EXTRA {none}u")));
-    assert!(header.contains(&format!("#define AXP_LOST {LOST}\n")));
+    let definitions = file("crates/code/specs/Lost.antt");
+    let lost = between(&definitions, "byte-of Lost = ", "\n");
+    assert!(header.contains(&format!("#define AXP_LOST {lost}\n")));
+    assert_eq!(lost, LOST.to_string());
     assert!(header.contains("#define AXP_PACKED_SIZE(n) (AXP_TRACKS * ((size_t)(n) + 2))\n"));
     // The sizes for 256 blocks.
     assert!(header.contains(&format!("#define AXP_MAX_IMAGE_SIZE {}\n", 18 * (8 * 256 + 15))));
