@@ -339,15 +339,22 @@ static void noise(uint8_t *track, size_t l)
         track[m] ^= next() & 1;
 }
 
-/* Where a burst of n cells begins, by chance: at the first cell, so late that it reaches into the tail, or anywhere. */
-static size_t burst_start(size_t l, size_t n)
+/* Loses a burst of 100 cells, or all of a shorter track: by chance at its start, so late that it reaches into the tail, or anywhere. */
+static void burst(uint8_t *track, size_t l)
 {
-    size_t places = l - n + 1, tail = l - 8 * (size_t)blocks;
+    size_t n = l < 100 ? l : 100, places = l - n + 1, tail = l - 8 * (size_t)blocks, start = next() % places;
     switch (next() % 6) {
-    case 0: return 0;
-    case 1: return places - 1 - next() % (tail < places ? tail : places);
-    default: return next() % places;
+    case 0: start = 0; break;
+    case 1: start = places - 1 - start % (tail < places ? tail : places); break;
     }
+    memset(track + start, AXP_LOST, n);
+}
+
+/* A wrong cell at the last position of the data. */
+static void last_data_cell(uint8_t *track, size_t l)
+{
+    (void)l;
+    track[8 * blocks - 1] ^= 1;
 }
 
 /* What repair and tracing answer where an image is to become a record: which tracks differ, flagged or not, and the cells. */
@@ -398,62 +405,48 @@ static void free_row(void)
     free(row->inputs);
 }
 
-static uint8_t *copy_of(const uint8_t *record)
+/* Damage to a track, and the input that an image with some damaged tracks is: its flags, and what is right. */
+typedef void (*damage)(uint8_t *track, size_t l);
+typedef struct input (*meaning)(uint8_t *image, const uint8_t *record, uint32_t damaged);
+
+static struct input flagged(uint8_t *image, const uint8_t *record, uint32_t damaged)
 {
-    uint8_t *image = allocate(AXP_IMAGE_SIZE(blocks));
-    memcpy(image, record, AXP_IMAGE_SIZE(blocks));
-    return image;
+    return (struct input){damaged, image, image, record, changes(image, record, damaged)};
 }
 
-/* Images that are to become the records again: noise on tracks, flagged or not. */
-static void add_noise(const char *name, call library, call plain, uint32_t (*tracks)(unsigned k), int flagged)
+static struct input unknown(uint8_t *image, const uint8_t *record, uint32_t damaged)
+{
+    (void)damaged;
+    return (struct input){0, image, image, record, changes(image, record, 0)};
+}
+
+/* Tracks with a lost cell are not flagged by the word, and are no extras. */
+static struct input lost(uint8_t *image, const uint8_t *record, uint32_t damaged)
+{
+    return (struct input){0, image, image, record, changes(image, record, damaged)};
+}
+
+static struct input out_of_reach(uint8_t *image, const uint8_t *record, uint32_t damaged)
+{
+    (void)record, (void)damaged;
+    return (struct input){0, image, image, image, {AXP_NO_RECORD, 0, 0, 0, AXP_NO_EXTRA, AXP_NO_EXTRA}};
+}
+
+/* Images of the records, each with this damage to some tracks. */
+static void add_damaged(const char *name, call library, call plain, uint32_t (*tracks)(unsigned k), damage damage, meaning meaning)
 {
     size_t l = AXP_TRACK_LENGTH(blocks), size = AXP_IMAGE_SIZE(blocks);
     struct row *row = add_row(name, size, size, library, plain);
     unsigned order[INPUTS];
     shuffle(order);
     for (int i = 0; i < input_count; i++) {
-        uint32_t damaged = tracks(order[i]), flags = flagged ? damaged : 0;
-        uint8_t *image = copy_of(records[i]);
+        uint32_t damaged = tracks(order[i]);
+        uint8_t *image = allocate(size);
+        memcpy(image, records[i], size);
         for (unsigned g = 0; g < AXP_TRACKS; g++)
             if (damaged >> g & 1)
-                noise(image + g * l, l);
-        row->inputs[i] = (struct input){flags, image, image, records[i], changes(image, records[i], flags)};
-    }
-}
-
-/* The same with nothing flagged: a burst of lost cells in each of two tracks, 100 of them or all of a shorter track. */
-static void add_bursts(const char *name, call library, call plain)
-{
-    size_t l = AXP_TRACK_LENGTH(blocks), size = AXP_IMAGE_SIZE(blocks), n = l < 100 ? l : 100;
-    struct row *row = add_row(name, size, size, library, plain);
-    unsigned order[INPUTS];
-    shuffle(order);
-    for (int i = 0; i < input_count; i++) {
-        uint32_t damaged = any_two(order[i]);
-        uint8_t *image = copy_of(records[i]);
-        for (unsigned g = 0; g < AXP_TRACKS; g++)
-            if (damaged >> g & 1)
-                memset(image + g * l + burst_start(l, n), AXP_LOST, n);
-        axp_result right = {AXP_OK, 0, damaged, 2 * (uint32_t)n, AXP_NO_EXTRA, AXP_NO_EXTRA};
-        row->inputs[i] = (struct input){0, image, image, records[i], right};
-    }
-}
-
-/* Images that have no record in reach: a wrong cell at the last position of the data in two tracks of a set. */
-static void add_two_errors(const char *name, call library, call plain)
-{
-    size_t l = AXP_TRACK_LENGTH(blocks), size = AXP_IMAGE_SIZE(blocks);
-    struct row *row = add_row(name, size, size, library, plain);
-    unsigned order[INPUTS];
-    shuffle(order);
-    for (int i = 0; i < input_count; i++) {
-        uint32_t damaged = two_of_a_set(order[i]);
-        uint8_t *image = copy_of(records[i]);
-        for (unsigned g = 0; g < AXP_TRACKS; g++)
-            if (damaged >> g & 1)
-                image[g * l + 8 * blocks - 1] ^= 1;
-        row->inputs[i] = (struct input){0, image, image, image, {AXP_NO_RECORD, 0, 0, 0, AXP_NO_EXTRA, AXP_NO_EXTRA}};
+                damage(image + g * l, l);
+        row->inputs[i] = meaning(image, records[i], damaged);
     }
 }
 
@@ -600,19 +593,19 @@ static void all(uint32_t n)
     blocks = n;
     input_count = n == 256 || is_short ? FEW_INPUTS : INPUTS;
     make_records();
-    add_noise("copy of the image", copy_image, NULL, no_track, 0);
+    add_damaged("copy of the image", copy_image, NULL, no_track, noise, unknown);
     add_encode("encode");
     add_read("read a clean record");
-    add_noise("repair a clean record", axp_repair, plain_repair, no_track, 1);
-    add_noise("repair one flagged track", axp_repair, plain_repair, one_track, 1);
-    add_noise("repair 2 + 2 tracks of noise", axp_repair, plain_repair, two_and_two, 1);
-    add_noise("repair 3 + 1 tracks of noise", axp_repair, plain_repair, three_and_one, 1);
-    add_bursts("repair two bursts of lost cells", axp_repair, plain_repair);
-    add_noise("trace a clean record", axp_trace, plain_trace, no_track, 0);
-    add_noise("trace one unknown track", axp_trace, plain_trace, one_track, 0);
-    add_noise("trace two unknown tracks", axp_trace, plain_trace, one_and_one, 0);
-    add_noise("trace two unknown tracks, the last", axp_trace, plain_trace, last_choice, 0);
-    add_two_errors("trace to 7, errors at the very end", axp_trace, plain_trace);
+    add_damaged("repair a clean record", axp_repair, plain_repair, no_track, noise, flagged);
+    add_damaged("repair one flagged track", axp_repair, plain_repair, one_track, noise, flagged);
+    add_damaged("repair 2 + 2 tracks of noise", axp_repair, plain_repair, two_and_two, noise, flagged);
+    add_damaged("repair 3 + 1 tracks of noise", axp_repair, plain_repair, three_and_one, noise, flagged);
+    add_damaged("repair two bursts of lost cells", axp_repair, plain_repair, any_two, burst, lost);
+    add_damaged("trace a clean record", axp_trace, plain_trace, no_track, noise, unknown);
+    add_damaged("trace one unknown track", axp_trace, plain_trace, one_track, noise, unknown);
+    add_damaged("trace two unknown tracks", axp_trace, plain_trace, one_and_one, noise, unknown);
+    add_damaged("trace two unknown tracks, the last", axp_trace, plain_trace, last_choice, noise, unknown);
+    add_damaged("trace to 7, errors at the very end", axp_trace, plain_trace, two_of_a_set, last_data_cell, out_of_reach);
     add_pack("pack");
     add_unpack("unpack");
     compare_padding("unpack to 8");

@@ -224,13 +224,15 @@ UnpackingUndone n = Undone (WasUnpacked n) (WasPacked n) (image-size (base n)) (
 
 -- ## Document 02, note 2: on images without a lost cell nothing moved
 
--- Each relation that the note moved is the former one there: cells are 0 or 1, and the flags are those of the flag word alone.
+-- An image without a lost cell.
+abbrev pub NoneLost : List ℕ → Type 0
+NoneLost image = (i : ℕ) → is-lost (getD image i 0) ≡ false
+
+-- Of such an image each relation that the note moved is the former one: cells are 0 or 1, and the flags are those of the flag word
+-- alone. The relations of encoder, track view, packing and unpacking did not move.
 pub record AsBefore (n : ℕ) (image before : List ℕ) : Type 0 where
   pub read : (r : Result) (after : List ℕ) → WasRead n image before r after ↔ ReadBy bit-values n image before r after
   pub repair : (word : ℕ) (r : Result) (after : List ℕ) →
       Repaired n word image before r after ↔ RepairedBy bit-values n word (word-flags (base n) word) image before r after
   pub trace : (word : ℕ) (r : Result) (after : List ℕ) →
       Traced n word image before r after ↔ TracedBy bit-values n word (word-flags (base n) word) image before r after
-
-abbrev pub NoneLost : List ℕ → Type 0
-NoneLost image = (i : ℕ) → is-lost (getD image i 0) ≡ false

@@ -4,13 +4,12 @@ use mathlib.Core.Bool.{Bool, true, false, _||_}
 use mathlib.Core.List.{List}
 use Prim.Native.Nat.{ℕ, zero, suc, _+_, _*_, _-_, _<_, _≤_}
 use native.Mathlib.Omega.{arith}
-use borrow.Rule.Slice.PartMut.{mid-len}
 use lib.Dec.{eqb}
-use lib.ListN.{length, getD, set, take, drop}
+use lib.ListN.{length, getD, set}
 use Rattle.code.specs.Record.{track-length}
 use Rattle.code.specs.Image.{track-number, all-tracks}
 use Rattle.code.specs.Flags.{TrackFlags, any}
-use Rattle.code.specs.Lost.{is-lost}
+use Rattle.code.specs.Lost.{read-values, is-lost}
 use Rattle.code.specs.Reach.{pick}
 use Rattle.code.specs.Sizes.{shape, Small}
 use Rattle.code.specs.declared.Sizes.{Sizes}
@@ -19,10 +18,9 @@ use Rattle.code.proofs.Places.{number-lt}
 use Rattle.track.specs.Track.{Readings, Highest}
 use Rattle.track.proofs.Cells.{Written, written-more}
 use Rattle.track.proofs.Lost.{most-reading, most-lost}
-use Rattle.track.proofs.Parts.{part-at}
+use Rattle.track.proofs.Rows.{part, part-length, part-row, part-readings}
 use Rattle.solver.specs.Solver.{marked}
 use Rattle.repair.specs.Steps.{lost-at, LostMarked}
-use Rattle.repair.proofs.Stretches.{part-readings}
 
 -- ## Tracks with a lost cell
 
@@ -31,23 +29,14 @@ unfolding any
 any-same zero f g h = refl
 any-same (suc w) f g h = rw (any-same w f g (λ k l. h k (omega arith)), h w (omega arith)) refl
 
-module _ (l g : ℕ) (image : List ℕ) (room : g * l + l ≤ length image) (r : Readings image) (most : ℕ)
-    (h : Highest (take (g * l + l - g * l) (drop (g * l) image)) most) where
-  abbrev stretch : List ℕ
-  stretch = take (g * l + l - g * l) (drop (g * l) image)
-
-  size : length stretch ≡ l
-  size = mid-len (g * l) (g * l + l) image room ∙ omega arith
-
-  at : (m : ℕ) → m < l → getD stretch m 0 ≡ getD image (g * l + m) 0
-  at m b = part-at image (g * l) (g * l + l - g * l) m (omega arith)
-
+module _ (l g : ℕ) (image : List ℕ) (room : g * l + l ≤ length image) (r : Readings image) (most : ℕ) (h : Highest (part l image g) most) where
   -- The highest byte of its stretch tells of a track.
-  pub stretch-reading : most < 3
-  stretch-reading = most-reading stretch most h (part-readings l g image room r)
+  pub stretch-reading : most < read-values
+  stretch-reading = most-reading (part l image g) most h (part-readings l image g room r)
 
   pub stretch-lost : is-lost most ≡ lost-at l image g
-  stretch-lost = most-lost stretch most h (part-readings l g image room r) ∙ rw size (any-same l _ _ (λ m b. ap is-lost (at m b)))
+  stretch-lost = most-lost (part l image g) most h (part-readings l image g room r)
+      ∙ rw (part-length l image g room) (any-same l _ _ (λ m b. ap is-lost (part-row l image g room m b)))
 
 -- ## Marks
 

@@ -13,7 +13,6 @@ use lib.ListN.{length, getD, take, drop}
 use lib.Seq.{ext-getD}
 use Rattle.code.specs.Record.{TrackSet, A, B, Shape, tracks, track-length, sum, Same}
 use Rattle.code.specs.Image.{track-number, all-tracks, image-size, cells}
-use Rattle.code.specs.Lost.{read-values}
 use Rattle.code.specs.Reach.{pick}
 use Rattle.code.specs.Calls.{differ, changed-in, over-tracks, changed-cells, mask-bit, changed-mask}
 use Rattle.code.specs.Sizes.{shape}
@@ -22,8 +21,7 @@ use Rattle.code.proofs.Masks.{changed-in-le, unchanged-in, sum-append}
 use Rattle.code.proofs.Patterns.{but-for}
 use Rattle.code.proofs.Places.{Place, place, number-lt}
 use Rattle.code.proofs.Sums.{sum-same}
-use Rattle.track.specs.Track.{Readings, known-cell, known, Copied, differing}
-use Rattle.track.proofs.Cells.{every}
+use Rattle.track.specs.Track.{known-cell, known, Copied, differing}
 use Rattle.track.proofs.Lost.{length-known, known-at}
 use Rattle.track.proofs.Rows.{row-end}
 use Rattle.track.proofs.Parts.{part-at, put-before, put-in, put-after}
@@ -44,13 +42,6 @@ pub has-track : (z : Sizes) (marks image out : List ℕ) → OnlyMarked z marks 
 has-track z marks image out o g h = record {
   room = omega (arith, row-end (track-length (shape z)) g (all-tracks (shape z)) h, o .image-has);
   sizes = o .out-has ∙ sym (o .image-has);
-}
-
--- The cells of a stretch are readings.
-pub part-readings : (l g : ℕ) (image : List ℕ) → g * l + l ≤ length image → Readings image → Readings (take (g * l + l - g * l) (drop (g * l) image))
-part-readings l g image room r = record {
-  reading = every (λ x. x < read-values) (take (g * l + l - g * l) (drop (g * l) image)) (omega arith) (λ i b.
-      rw (part-at image (g * l) (g * l + l - g * l) i (omega (arith, mid-len (g * l) (g * l + l) image room))) (r .reading (g * l + i)));
 }
 
 -- ## Changed cells

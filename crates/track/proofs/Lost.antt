@@ -2,7 +2,7 @@
 use mathlib.Core.Path.{_≡_, refl, sym, ap, _∙_}
 use mathlib.Core.Bool.{Bool, true, false, true≢false}
 use mathlib.Core.List.{List, [], _∷_}
-use Prim.Native.Nat.{ℕ, zero, suc, _<_}
+use Prim.Native.Nat.{ℕ, zero, suc, _-_, _<_}
 use native.Mathlib.Omega.{arith}
 use borrow.Author.Tests.{eqb-true}
 use lib.ListN.{length, getD}
@@ -47,6 +47,10 @@ known-same xs bits = ext-getD 0 (known xs) xs (length-known xs) (λ i h. known-a
 
 -- ## The highest byte
 
+-- Where all cells are below a value, it is.
+pub most-below : (xs : List ℕ) (most : ℕ) → Highest xs most → (v : ℕ) → 0 < v → ((i : ℕ) → i < length xs → getD xs i 0 < v) → most < v
+most-below xs most h v some all = omega (arith, some, h .least (v - 1) (λ i l. omega (arith, some, all i l)))
+
 -- A reading that is not lost is a bit.
 pub known-bit : (x : ℕ) → x < read-values → is-lost x ≡ false → x < 2
 known-bit zero h e = omega arith
@@ -56,7 +60,7 @@ known-bit (suc (suc (suc x))) h e = absurd (omega arith)
 
 module _ (xs : List ℕ) (most : ℕ) (h : Highest xs most) (r : Readings xs) where
   pub most-reading : most < read-values
-  most-reading = omega (arith, h .least 2 (λ i l. omega (arith, r .reading i)))
+  most-reading = most-below xs most h read-values (omega arith) (λ i l. r .reading i)
 
   -- It is lost exactly if some cell is.
   pub most-lost : is-lost most ≡ any (length xs) (λ m. is-lost (getD xs m 0))
@@ -67,7 +71,7 @@ module _ (xs : List ℕ) (most : ℕ) (h : Highest xs most) (r : Readings xs) wh
       go true false p q = absurd (omega (
         arith,
         eqb-true most 2 p,
-        h .least 1 (λ i l. omega (arith, known-bit (getD xs i 0) (r .reading i) (none-flagged (length xs) (λ m. is-lost (getD xs m 0)) q i l))),
+        most-below xs most h 2 (omega arith) (λ i l. known-bit (getD xs i 0) (r .reading i) (none-flagged (length xs) (λ m. is-lost (getD xs m 0)) q i l)),
       ))
       go false true p q = absurd (true≢false (sym q ∙ any-none (length xs) (λ m. is-lost (getD xs m 0)) (λ i l. bit-known (getD xs i 0) (omega (arith, known-bit most most-reading p, h .above i)))))
       go false false p q = refl

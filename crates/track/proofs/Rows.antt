@@ -10,7 +10,7 @@ use borrow.Rule.Slice.PartMut.{putMid, mid-len, same-len-mid}
 use lib.Arith.{digits-lt}
 use lib.ListN.{length, getD, take, drop, replicate, length-replicate}
 use lib.Seq.{length-take-le}
-use Rattle.track.specs.Track.{row, Bits}
+use Rattle.track.specs.Track.{row, Bits, Readings}
 use Rattle.track.proofs.Cells.{every}
 use Rattle.track.proofs.Parts.{part-at, put-before, put-in, put-after}
 
@@ -33,8 +33,15 @@ module _ (l : ℕ) (xs : List ℕ) (r : ℕ) (room : r * l + l ≤ length xs) wh
   pub part-row : (m : ℕ) → m < l → getD (part l xs r) m 0 ≡ row l xs r m
   part-row m h = part-at xs (r * l) (r * l + l - r * l) m (omega arith)
 
+  -- Where all cells are below a value, so are its cells.
+  part-below : (v : ℕ) → 0 < v → ((i : ℕ) → getD xs i 0 < v) → (i : ℕ) → getD (part l xs r) i 0 < v
+  part-below v some b = every (λ x. x < v) (part l xs r) some (λ m h. rw (part-row m (omega (arith, part-length))) (b (r * l + m)))
+
   pub part-bits : Bits xs → Bits (part l xs r)
-  part-bits b = record { bit = every (λ v. v < 2) (part l xs r) (omega arith) (λ m h. rw (part-row m (omega (arith, part-length))) (b .bit (r * l + m))) }
+  part-bits b = record { bit = part-below 2 (omega arith) (b .bit) }
+
+  pub part-readings : Readings xs → Readings (part l xs r)
+  part-readings b = record { reading = part-below 3 (omega arith) (b .reading) }
 
   -- A list that came back for the row.
   module _ (ys : List ℕ) (size : length ys ≡ length (part l xs r)) where

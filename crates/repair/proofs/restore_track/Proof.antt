@@ -1,6 +1,7 @@
 -- `restore_track`: a track is its stretch, which is lent and comes back.
 use borrow.Author.Needs.{needs}
-use Rattle.repair.proofs.Stretches.{part-readings, track-back}
+use Rattle.track.proofs.Rows.{part-readings}
+use Rattle.repair.proofs.Stretches.{track-back}
 use Rattle.repair.proofs.restore_track.Statement.{statement}
 use Rattle.repair.proofs.restore_track.Tie as tie
 
