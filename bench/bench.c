@@ -83,7 +83,7 @@ static uint32_t next(void)
 
 static void *allocate(size_t size)
 {
-    void *p = malloc(size);
+    void *p = malloc(size > 0 ? size : 1);
     if (!p) {
         perror("bench");
         exit(1);
@@ -350,11 +350,10 @@ static void burst(uint8_t *track, size_t l)
     memset(track + start, AXP_LOST, n);
 }
 
-/* A wrong cell at the last position of the data. */
+/* A wrong cell at the last position of the data, or of the tail where there are none. */
 static void last_data_cell(uint8_t *track, size_t l)
 {
-    (void)l;
-    track[8 * blocks - 1] ^= 1;
+    track[blocks > 0 ? 8 * blocks - 1 : l - 1] ^= 1;
 }
 
 /* What repair and tracing answer where an image is to become a record: which tracks differ, flagged or not, and the cells. */
@@ -610,7 +609,8 @@ static void all(uint32_t n)
     add_unpack("unpack");
     compare_padding("unpack to 8");
 #ifdef WITH_ISAL
-    add_isal("(ISA-L, 14 + 4, four lost)");
+    if (n > 0)
+        add_isal("(ISA-L, 14 + 4, four lost)");
 #endif
     for (int i = 0; i < row_count; i++)
         compare(&rows[i]);
@@ -704,6 +704,7 @@ int main(int argc, char **argv)
     for (size_t i = 0; i < ROOM; i++)
         pattern[i] = (uint8_t)(AXP_LOST + 1 + next() % (255 - AXP_LOST));
     printf("%5s  %-36s %10s %8s %10s %8s %9s %9s\n", "n", "", "library ns", "copies", "plain C ns", "copies", "lib/plain", "MB/s");
+    all(0);
     all(1);
     all(16);
     all(256);

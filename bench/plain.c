@@ -393,7 +393,7 @@ static bool solve(uint8_t *restrict out, uint8_t *restrict syn, size_t l, plan a
 /* Numbers 1 to 3. */
 static axp_result check_sizes(uint32_t blocks, size_t input, size_t wanted, size_t room, size_t size)
 {
-    if (blocks == 0 || blocks > 256)
+    if (blocks > 256)
         return answer(1, 0);
     if (input != wanted)
         return answer(2, 0);

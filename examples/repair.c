@@ -29,6 +29,15 @@ static void show(const char *call, axp_result r)
     printf("\n");
 }
 
+/* A decimal number: strtoul has 0 for any other text, and 0 is a block count. */
+static int number(const char *text, uint32_t *value)
+{
+    char *end;
+    unsigned long n = strtoul(text, &end, 10);
+    *value = (uint32_t)n;
+    return *text >= '0' && *text <= '9' && *end == '\0' && n <= UINT32_MAX;
+}
+
 int main(int argc, char **argv)
 {
     uint32_t blocks, flags;
@@ -36,12 +45,10 @@ int main(int argc, char **argv)
     axp_result r;
     FILE *file;
 
-    if (argc < 4) {
+    if (argc < 4 || !number(argv[1], &blocks) || !number(argv[2], &flags)) {
         fprintf(stderr, "usage: repair BLOCKS FLAGS IMAGE [OUT]\n");
         return 2;
     }
-    blocks = (uint32_t)strtoul(argv[1], NULL, 10);
-    flags = (uint32_t)strtoul(argv[2], NULL, 10);
     file = fopen(argv[3], "rb");
     if (!file) {
         perror(argv[3]);

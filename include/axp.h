@@ -11,10 +11,13 @@
  * axp_pack and axp_unpack. The static inline functions of this header are conveniences and no proved
  * code.
  *
- * A record has n blocks, n from 1 to 256, and 18 tracks of L = 8n + 15 cells: tracks 0 to 8 of set A,
+ * A record has n blocks, n from 0 to 256, and 18 tracks of L = 8n + 15 cells: tracks 0 to 8 of set A,
  * then tracks 0 to 8 of set B. Its image is 18 * L bytes, one cell a byte, value 0 or 1; track number
  * g (t for track t of A, 9 + t for track t of B) begins at byte g * L. Its payload is 14 bytes a
  * block.
+ *
+ * A record of no blocks (n = 0) is its tail alone: 15 cells a track, 270 in all, an empty payload and
+ * 36 bytes packed. Its only good record is all zero. Every call takes it as it takes the others.
  *
  * A cell that a drive could not read is marked with 2 (AXP_LOST). Repairer and tracer take the track of
  * a lost cell as flagged, as if its bit of the flag word were set, and fill the cell; the reader takes
@@ -41,7 +44,7 @@ extern "C" {
 
 /* The version of this header and of the library that it was made for. */
 #define AXP_VERSION_MAJOR 0
-#define AXP_VERSION_MINOR 3
+#define AXP_VERSION_MINOR 4
 #define AXP_VERSION_PATCH 0
 
 /* The most blocks of a record. */
@@ -74,7 +77,7 @@ extern "C" {
  */
 enum axp_answer {
     AXP_OK = 0,          /* the result fills the first bytes of the output; later bytes stay */
-    AXP_BLOCK_COUNT = 1, /* the block count is 0 or above 256 */
+    AXP_BLOCK_COUNT = 1, /* the block count is above 256 */
     AXP_INPUT_LENGTH = 2,/* the input's length is not that of a payload (encoder), a packed form
                             (unpacking) or an image (the others) of that block count */
     AXP_OUTPUT_SHORT = 3,/* the output is shorter than a payload (reader), a packed form (packing) or an
@@ -127,7 +130,8 @@ typedef struct axp_result {
  * Encodes a payload.
  *
  * payload  AXP_PAYLOAD_SIZE(blocks) bytes. Byte c of a block goes along track c + 1 of A for c from 0
- *          to 6 and along track c - 6 of B for c from 7 to 13, its most significant bit first.
+ *          to 6 and along track c - 6 of B for c from 7 to 13, its most significant bit first. Of no
+ *          blocks it is empty, and may be a null pointer.
  * out      with answer 0 its first AXP_IMAGE_SIZE(blocks) bytes are the image of the one good record
  *          that carries the payload.
  *
@@ -139,9 +143,9 @@ axp_result axp_encode(uint32_t blocks, const uint8_t *payload, size_t payload_le
  * Reads the payload of a good record.
  *
  * image    AXP_IMAGE_SIZE(blocks) bytes, each 0, 1 or AXP_LOST.
- * out      with answer 0 its first AXP_PAYLOAD_SIZE(blocks) bytes are the payload. With
- *          AXP_NO_RECORD, given exactly if the image is not a good record (one with a lost cell is
- *          not), it stays as it came.
+ * out      with answer 0 its first AXP_PAYLOAD_SIZE(blocks) bytes are the payload; of no blocks these
+ *          are none, and it may be a null pointer of length 0. With AXP_NO_RECORD, given exactly if the
+ *          image is not a good record (one with a lost cell is not), it stays as it came.
  *
  * Answers: AXP_OK, AXP_BLOCK_COUNT, AXP_INPUT_LENGTH, AXP_OUTPUT_SHORT, AXP_CELL_VALUE, AXP_NO_RECORD.
  */
@@ -217,7 +221,7 @@ static inline const char *axp_strerror(uint32_t answer)
 {
     switch (answer) {
     case AXP_OK: return "ok";
-    case AXP_BLOCK_COUNT: return "the block count is not 1 to 256";
+    case AXP_BLOCK_COUNT: return "the block count is above 256";
     case AXP_INPUT_LENGTH: return "the input has the wrong length";
     case AXP_OUTPUT_SHORT: return "the output is too short";
     case AXP_CELL_VALUE: return "a cell has a value that the call does not take";

@@ -72,10 +72,10 @@ static void packing(uint32_t n, const uint8_t *image)
     expect(is_filled(packed, 0, sizeof packed, 0xaa), "output of a refused packing");
 }
 
-/* Was a record found that changes so many cells, in the lost tracks A2 and B8 and in the others, and is this extra of A named alone? */
-static int is_found(axp_result r, size_t cells, uint32_t others, uint32_t extra_a)
+/* Was a record found that changes so many cells, in these tracks, and are these extras named? */
+static int is_found(axp_result r, uint32_t mask, size_t cells, uint32_t extra_a, uint32_t extra_b)
 {
-    return r.answer == AXP_OK && r.detail == 0 && r.mask == (axp_flag_a(2) | axp_flag_b(8) | others) && r.cells == cells && r.extra_a == extra_a && r.extra_b == AXP_NO_EXTRA;
+    return r.answer == AXP_OK && r.detail == 0 && r.mask == mask && r.cells == cells && r.extra_a == extra_a && r.extra_b == extra_b;
 }
 
 /* A record with a track that the drive could not read and with one lost cell in another, then with more and more against it. */
@@ -83,15 +83,16 @@ static void lost(uint32_t n, const uint8_t *image)
 {
     static uint8_t cells[AXP_MAX_IMAGE_SIZE], out[AXP_MAX_IMAGE_SIZE + 8], bytes[AXP_MAX_PACKED_SIZE];
     size_t l = AXP_TRACK_LENGTH(n), size = AXP_IMAGE_SIZE(n), t;
+    uint32_t mask = axp_flag_a(2) | axp_flag_b(8);
     memcpy(cells, image, size);
     memset(cells + 2 * l, AXP_LOST, l);
     cells[size - 1] = AXP_LOST;
     memset(out, 0x55, sizeof out);
-    expect(is_found(axp_repair(n, 0, cells, size, out, sizeof out), l + 1, 0, AXP_NO_EXTRA) && memcmp(out, image, size) == 0, "repair of lost cells");
+    expect(is_found(axp_repair(n, 0, cells, size, out, sizeof out), mask, l + 1, AXP_NO_EXTRA, AXP_NO_EXTRA) && memcmp(out, image, size) == 0, "repair of lost cells");
     expect(is_filled(out, size, sizeof out, 0x55), "bytes past the repaired image");
-    expect(is_found(axp_trace(n, axp_flag_a(2), cells, size, out, size), l + 1, 0, AXP_NO_EXTRA) && memcmp(out, image, size) == 0, "trace of lost cells");
-    cells[4 * l + 8 * n - 1] ^= 1;
-    expect(is_found(axp_trace(n, 0, cells, size, out, size), l + 2, axp_flag_a(4), 4) && memcmp(out, image, size) == 0, "extra beside lost cells");
+    expect(is_found(axp_trace(n, axp_flag_a(2), cells, size, out, size), mask, l + 1, AXP_NO_EXTRA, AXP_NO_EXTRA) && memcmp(out, image, size) == 0, "trace of lost cells");
+    cells[4 * l + l / 2] ^= 1;
+    expect(is_found(axp_trace(n, 0, cells, size, out, size), mask | axp_flag_a(4), l + 2, 4, AXP_NO_EXTRA) && memcmp(out, image, size) == 0, "extra beside lost cells");
     expect(is_plain(axp_repair(n, 0, cells, size, out, size), AXP_NO_RECORD, 0) && memcmp(out, cells, size) == 0 && out[size - 1] == AXP_LOST, "lost cells after 7");
 
     memset(out, 0x55, sizeof out);
@@ -143,7 +144,7 @@ static void one(uint32_t n)
     r = axp_repair(n, axp_flag_a(1), damaged, size, out, size);
     expect(r.answer == AXP_NO_RECORD && memcmp(out, damaged, size) == 0, "repair to 7");
     memcpy(damaged, image, size);
-    damaged[4 * l + 8 * n - 1] ^= 1;
+    damaged[4 * l + l / 2] ^= 1;
     r = axp_trace(n, 0, damaged, size, out, size);
     expect(r.answer == AXP_OK && r.cells == 1 && r.extra_a == 4 && r.extra_b == AXP_NO_EXTRA, "trace");
     r = axp_trace(n, 15, damaged, size, out, size);
@@ -165,18 +166,97 @@ static void flags(void)
                axp_trace(1, axp_flag_b(t), image, sizeof image, out, sizeof out).answer == AXP_FLAG_BIT, "flag of no track");
 }
 
+/* Is every cell of the output 0? It is filled again for the next call. */
+static int is_zeroed(uint8_t *out, size_t size)
+{
+    int zeroed = is_filled(out, 0, size, 0);
+    memset(out, 0x55, size);
+    return zeroed;
+}
+
+/* No blocks, beyond what every count is put to: the record is 270 cells, all 0, and carries no byte. A null pointer stands for no bytes. */
+static void no_blocks(void)
+{
+    uint8_t image[AXP_IMAGE_SIZE(0) + 1] = {0}, out[AXP_IMAGE_SIZE(0) + 8], bytes[AXP_PAYLOAD_SIZE(1)];
+    size_t l = AXP_TRACK_LENGTH(0), size = AXP_IMAGE_SIZE(0);
+    uint32_t g;
+    expect(l == 15 && size == 270 && AXP_PAYLOAD_SIZE(0) == 0 && AXP_PACKED_SIZE(0) == 36, "sizes of no blocks");
+    memset(out, 0x55, sizeof out);
+    memset(bytes, 0xaa, sizeof bytes);
+    expect(is_plain(axp_encode(0, NULL, 0, out, size), AXP_OK, 0) && is_zeroed(out, size), "encode no payload");
+    expect(is_plain(axp_encode(0, image, 0, out, sizeof out), AXP_OK, 0) && is_zeroed(out, size), "encode a payload of no bytes");
+    expect(is_plain(axp_read(0, image, size, NULL, 0), AXP_OK, 0), "read to no output");
+    expect(is_plain(axp_read(0, image, size, bytes, 0), AXP_OK, 0), "read to an output of no bytes");
+    expect(is_plain(axp_read(0, image, size, bytes, sizeof bytes), AXP_OK, 0), "read no payload");
+    expect(is_filled(bytes, 0, sizeof bytes, 0xaa), "bytes past no payload");
+    expect(is_plain(axp_repair(0, 0, image, size, out, sizeof out), AXP_OK, 0) && is_zeroed(out, size), "repair zeros");
+    expect(is_plain(axp_trace(0, 0, image, size, out, sizeof out), AXP_OK, 0) && is_zeroed(out, size), "trace zeros");
+
+    /* A cell of each track that is 1, then lost: in the last track the last cell. */
+    for (g = 0; g < AXP_TRACKS; g++) {
+        uint32_t bit = (uint32_t)1 << g, extra_a = g < 9 ? g : AXP_NO_EXTRA, extra_b = g < 9 ? AXP_NO_EXTRA : g;
+        uint8_t *cell = image + g * l + (g + 12) % l;
+        *cell = 1;
+        expect(is_plain(axp_read(0, image, size, NULL, 0), AXP_NO_RECORD, 0), "read a one");
+        expect(is_plain(axp_repair(0, 0, image, size, out, size), AXP_NO_RECORD, 0) && memcmp(out, image, size) == 0, "repair a one without its flag");
+        expect(is_found(axp_repair(0, bit, image, size, out, size), bit, 1, AXP_NO_EXTRA, AXP_NO_EXTRA) && is_zeroed(out, size), "repair a one");
+        expect(is_found(axp_trace(0, 0, image, size, out, size), bit, 1, extra_a, extra_b) && is_zeroed(out, size), "trace a one");
+        packing(0, image);
+        *cell = AXP_LOST;
+        expect(is_found(axp_repair(0, 0, image, size, out, size), bit, 1, AXP_NO_EXTRA, AXP_NO_EXTRA) && is_zeroed(out, size), "repair a lost cell of no blocks");
+        expect(is_found(axp_trace(0, 0, image, size, out, size), bit, 1, AXP_NO_EXTRA, AXP_NO_EXTRA) && is_zeroed(out, size), "trace a lost cell of no blocks");
+        *cell = 0;
+    }
+    /* A one in each set, then two in A, at the same position. */
+    image[0] = image[17 * l] = 1;
+    expect(is_found(axp_trace(0, 0, image, size, out, size), axp_flag_a(0) | axp_flag_b(8), 2, 0, 17) && is_zeroed(out, size), "trace a one in each set");
+    image[17 * l] = 0;
+    image[8 * l] = 1;
+    expect(is_plain(axp_read(0, image, size, NULL, 0), AXP_NO_RECORD, 0), "read two ones");
+    expect(is_plain(axp_trace(0, 0, image, size, out, size), AXP_NO_RECORD, 0) && memcmp(out, image, size) == 0, "trace two ones in a set");
+
+    /* What is refused leaves the output as it came. */
+    memset(out, 0x55, size);
+    expect(is_plain(axp_encode(0, image, 1, out, size), AXP_INPUT_LENGTH, 0), "encode a byte of no blocks");
+    expect(is_plain(axp_encode(0, NULL, 0, out, size - 1), AXP_OUTPUT_SHORT, 0), "encode no blocks to a short output");
+    expect(is_plain(axp_encode(0, NULL, 0, NULL, 0), AXP_OUTPUT_SHORT, 0), "encode no blocks to no output");
+    expect(is_plain(axp_read(0, image, size - 1, NULL, 0), AXP_INPUT_LENGTH, 0), "read a cell less of no blocks");
+    expect(is_plain(axp_read(0, image, size + 1, NULL, 0), AXP_INPUT_LENGTH, 0), "read a cell more of no blocks");
+    expect(is_plain(axp_repair(0, 0, image, size, out, size - 1), AXP_OUTPUT_SHORT, 0), "repair no blocks to a short output");
+    expect(is_plain(axp_trace(0, 0, image, size + 1, out, size), AXP_INPUT_LENGTH, 0), "trace a cell more of no blocks");
+    expect(is_plain(axp_trace(0, 0, NULL, 0, out, size), AXP_INPUT_LENGTH, 0), "trace no image of no blocks");
+    expect(is_plain(axp_pack(0, NULL, 0, out, size), AXP_INPUT_LENGTH, 0), "pack no image of no blocks");
+    expect(is_plain(axp_unpack(0, NULL, 0, out, size), AXP_INPUT_LENGTH, 0), "unpack no bytes of no blocks");
+    expect(is_filled(out, 0, sizeof out, 0x55), "output of refused no blocks, and bytes past an image");
+}
+
+/* The block counts that are refused, by each call and before all else. */
+static void block_counts(void)
+{
+    static const uint32_t counts[] = {AXP_MAX_BLOCKS + 1, 512, 65536, (uint32_t)1 << 31, 4294967295u};
+    size_t i;
+    for (i = 0; i < sizeof counts / sizeof *counts; i++) {
+        uint32_t n = counts[i];
+        expect(is_plain(axp_encode(n, NULL, 0, NULL, 0), AXP_BLOCK_COUNT, 0), "encode too many blocks");
+        expect(is_plain(axp_read(n, NULL, 0, NULL, 0), AXP_BLOCK_COUNT, 0), "read too many blocks");
+        expect(is_plain(axp_repair(n, 0, NULL, 0, NULL, 0), AXP_BLOCK_COUNT, 0), "repair too many blocks");
+        expect(is_plain(axp_trace(n, 0, NULL, 0, NULL, 0), AXP_BLOCK_COUNT, 0), "trace too many blocks");
+        expect(is_plain(axp_pack(n, NULL, 0, NULL, 0), AXP_BLOCK_COUNT, 0), "pack too many blocks");
+        expect(is_plain(axp_unpack(n, NULL, 0, NULL, 0), AXP_BLOCK_COUNT, 0), "unpack too many blocks");
+    }
+    expect(strcmp(axp_strerror(AXP_BLOCK_COUNT), "the block count is above 256") == 0, "text of a block count");
+}
+
 int main(void)
 {
-    static const uint32_t counts[] = {1, 2, 7, 16, 100, 256};
+    static const uint32_t counts[] = {0, 1, 2, 7, 16, 100, 256};
     size_t i;
-    uint8_t byte = 0;
     for (i = 0; i < sizeof counts / sizeof *counts; i++)
         one(counts[i]);
+    no_blocks();
+    block_counts();
     flags();
     expect(axp_repair(1, 0, NULL, 0, NULL, 0).answer == AXP_INPUT_LENGTH, "no image");
-    expect(axp_encode(0, NULL, 0, &byte, 1).answer == AXP_BLOCK_COUNT && byte == 0, "no blocks");
-    expect(is_plain(axp_pack(0, NULL, 0, &byte, 1), AXP_BLOCK_COUNT, 0) && byte == 0, "pack no blocks");
-    expect(is_plain(axp_unpack(AXP_MAX_BLOCKS + 1, NULL, 0, &byte, 1), AXP_BLOCK_COUNT, 0) && byte == 0, "unpack too many blocks");
     expect(strcmp(axp_strerror(AXP_PADDING), "a padding bit is 1") == 0, "text of an answer");
     expect(sizeof(axp_result) == 24, "size of axp_result");
     printf("client: %s\n", failures ? "FAILED" : "ok");

@@ -14,9 +14,6 @@ ghost use Rattle.checks.specs.Lost.{LostTold};
 pub fn check_input(blocks: u32, input: usize, wanted: usize) -> Answer
     ensures { λ r. ⌜ FirstAnswer (input-checks blocks wanted input) (result-of r) ⌝ }
 {
-    if blocks == 0 {
-        return plain_answer(1, 0);
-    }
     if 256 < blocks {
         return plain_answer(1, 0);
     }

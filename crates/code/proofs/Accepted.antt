@@ -6,12 +6,11 @@ use Prim.Native.Nat.{ℕ, _<_, _≤_}
 use native.Mathlib.Decide.{decLt}
 use native.Mathlib.Omega.{arith}
 use lib.ListN.{length, getD, List·getD-eq-default}
-use Rattle.code.specs.Numbers.{count-check, room-check, cell-check, first-bad, input-checks, size-checks, image-checks, Passed}
+use Rattle.code.specs.Numbers.{room-check, cell-check, first-bad, input-checks, size-checks, image-checks, Passed}
 use Rattle.code.proofs.Numbers.{first-bad-none, first-bad-before, passed-few, passed-exact, passed-both, passed-append}
 
 -- The count and the lengths are right.
 pub record SizesRight (n wanted input size output : ℕ) : Type 0 where
-  pub counted : ¬ count-check n .applies
   pub few : n ≤ 256
   pub exact : input ≡ wanted
   pub fits : size ≤ output
@@ -21,14 +20,13 @@ module _ (n wanted input size output : ℕ) where
   sizes-right p =
       let q = passed-both (input-checks n wanted input) (room-check size output ∷ []) p in
       record {
-        counted = q .0 .0;
         few = passed-few n wanted input (q .0);
         exact = passed-exact n wanted input (q .0);
         fits = by-cases (decLt output size) (λ h. absurd (q .1 .0 h)) (λ h. omega arith);
       }
 
-  pub sizes-pass : ¬ count-check n .applies → input ≡ wanted → size ≤ output → Passed (size-checks n wanted input size output)
-  sizes-pass counted exact fits = (counted, (λ d. d exact, (λ h. omega arith, tt)))
+  pub sizes-pass : n ≤ 256 → input ≡ wanted → size ≤ output → Passed (size-checks n wanted input size output)
+  sizes-pass few exact fits = (λ h. omega arith, (λ d. d exact, (λ h. omega arith, tt)))
 
 -- And the cells have these values.
 pub record ImageRight (values n wanted : ℕ) (image : List ℕ) (size output : ℕ) : Type 0 where

@@ -1,6 +1,6 @@
 -- The examples of document 01 that are marked P hold.
 use mathlib.Core.Path.{_≡_, refl, sym, _∙_}
-use mathlib.Core.Logic.{_⊎_, inl, inr, ⊎-elim}
+use mathlib.Core.Logic.{inl, inr}
 use mathlib.Core.Bool.{Bool, true, false, _&&_, _||_, not, true≢false}
 use mathlib.Core.List.{List, [], _∷_, _++_}
 use Prim.Native.Nat.{ℕ, zero, suc, _+_, _*_, _%_, _^_, _<_, _≤_}
@@ -9,7 +9,7 @@ use native.Mathlib.Omega.{arith}
 use borrow.Author.Tests.{eqb-true}
 use lib.Dec.{T, eqb, ltb, eqb→eq, ltb→lt}
 use lib.ListN.{length, getD, drop, replicate, List·getD-append}
-use Rattle.code.specs.Record.{TrackSet, A, B, base, data-tracks, tracks, Cells, back, sum, diagonal, vertical, Good, Same}
+use Rattle.code.specs.Record.{TrackSet, A, B, base, data-tracks, tracks, Cells, back, sum, diagonal, vertical, Good, Same, blank}
 use Rattle.code.specs.Image.{track-number, cells}
 use Rattle.code.specs.Payload.{digits, payload-index, payload-byte, Carries}
 use Rattle.code.specs.Flags.{TrackFlags, whole, word-flags, flag-count, AgreeOff, Within}
@@ -26,7 +26,7 @@ use Rattle.code.proofs.Patterns.{neither}
 use Rattle.code.proofs.Reached.{count-extras}
 use Rattle.code.proofs.Unique.{unique-tracks}
 use Rattle.code.proofs.Changed.{mended-same, changed-extra-same}
-use Rattle.code.proofs.Linear.{same-sym, good-same, good-blank, blank}
+use Rattle.code.proofs.Linear.{same-sym, good-same, good-blank}
 use Rattle.code.proofs.Lost.{count-widened, bit-known, as-before}
 use Rattle.code.proofs.Numbers.{first-bad-none, first-passed}
 use Rattle.code.proofs.Spots.{spot, spots, length-ones, ones-bit, ones-cells, image-cells, ones-stay}
@@ -43,7 +43,7 @@ checks-of values word image before = repair-checks values (base 1) 1 word (flags
 pub passed : (values : ℕ) → 2 ≤ values → (flags : ℕ) (ins before : List ℕ) → T (ltb flags (2 ^ 18)) → T (ltb 0 (flags-code (base 1) (flags-of flags))) → 414 ≤ length before →
     Passed (checks-of values flags (ones ins) before)
 passed values two flags ins before few code h = (
-  λ d. ⊎-elim (λ e. omega arith) (λ e. omega arith) d,
+  λ h. omega arith,
   (
     λ d. d (length-ones ins),
     (
@@ -268,20 +268,20 @@ module _ (image before : List ℕ) (l : length image ≡ 414) (cells-right : fir
 
   refused-15 : (rest : Type 0) → First (checks 15) (Refused (plain 6 0) before before) rest
   refused-15 rest = inr (
-    λ d. ⊎-elim (λ e. omega arith) (λ e. omega arith) d,
+    λ h. omega arith,
     inr (λ d. d l, inr (λ r. omega arith, inr (λ r. omega arith, inr (λ r. omega arith, inl (code-15, record { result = refl; output = refl }))))),
   )
 
   refused-18 : (rest : Type 0) → First (checks (2 ^ 18)) (Refused (plain 5 0) before before) rest
   refused-18 rest = inr (
-    λ d. ⊎-elim (λ e. omega arith) (λ e. omega arith) d,
+    λ h. omega arith,
     inr (λ d. d l, inr (λ r. omega arith, inr (λ r. omega arith, inl (omega arith, record { result = refl; output = refl })))),
   )
 
 encode-128 : Holds (encode (128 ∷ replicate 13 0) (a 0 1 ∷ rest-of-128))
 unfolding every spot digits
 encode-128 before h = inr (
-  λ d. ⊎-elim (λ e. omega arith) (λ e. omega arith) d,
+  λ h. omega arith,
   inr (
     λ d. d refl,
     inr (

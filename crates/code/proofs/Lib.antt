@@ -35,6 +35,7 @@ pub mod Values
 pub mod Extras
 pub mod Mending
 pub mod Supply
+pub mod NoBlocks
 pub mod Tests
 pub mod Spots
 pub mod Examples

@@ -5,10 +5,10 @@ use mathlib.Core.Logic.{_≢_, by-cases}
 use Prim.Native.Nat.{ℕ, zero, suc, _+_, _<_, _≤_}
 use native.Mathlib.Decide.{decLe}
 use native.Mathlib.Omega.{arith}
-use Rattle.code.specs.Record.{TrackSet, A, B, other, Shape, tracks, lag, Cells, sum, Good, Same}
+use Rattle.code.specs.Record.{TrackSet, A, B, other, Shape, tracks, lag, Cells, sum, Good, Same, blank}
 use Rattle.code.specs.Flags.{TrackFlags, whole, bit, flag-count, AgreeOff}
 use Rattle.code.specs.Reach.{Ambiguous}
-use Rattle.code.proofs.Linear.{bits-of, plus, blank, good-plus, good-blank}
+use Rattle.code.proofs.Linear.{bits-of, plus, good-plus, good-blank}
 use Rattle.code.proofs.Pairs.{Flagged, Pair, web, web-good, web-unflagged, web-last}
 use Rattle.code.proofs.Peak.{peak}
 

@@ -18,6 +18,7 @@ use Rattle.code.specs.Record.{
   vertical,
   Good,
   Same,
+  blank,
 }
 use Rattle.code.proofs.Cell.{vertical-within, tail-within}
 use Rattle.code.proofs.Sums.{back-zero, sum-same, sum-zero, sum-add, sum-mod, shifted-same, shifted-add, shifted-mod}
@@ -32,9 +33,6 @@ bits-of x s t m = x s t m % 2
 
 abbrev pub plus : Cells → Cells → Cells
 plus x y = bits-of (x ⊞ y)
-
-abbrev pub blank : Cells
-blank s t m = 0
 
 pub diagonal-add : (sh : Shape) (x y : Cells) (s : TrackSet) (m : ℕ) → diagonal sh (x ⊞ y) s m ≡ diagonal sh x s m + diagonal sh y s m
 unfolding diagonal

@@ -1,6 +1,6 @@
 -- Laws of the checks: a list of cells that all have a value has no bad cell, and checks that do not apply are passed by.
 use mathlib.Core.Path.{_≡_, refl, sym, ap}
-use mathlib.Core.Logic.{inl, inr, ⊎-elim, _≢_, by-cases}
+use mathlib.Core.Logic.{inl, inr, _≢_, _↔_, by-cases}
 use mathlib.Core.Bool.{Bool, true, false}
 use mathlib.Core.List.{List, [], _∷_, _++_}
 use Prim.Native.Nat.{ℕ, zero, suc, _+_, _<_, _≤_}
@@ -11,7 +11,7 @@ use lib.ListN.{length, getD}
 use borrow.Author.Tests.{lt-ltb, le-ltb, ltb-true}
 use Rattle.code.specs.Reach.{pick}
 use Rattle.code.specs.Calls.{Result, plain, Refused, Answered}
-use Rattle.code.specs.Numbers.{Check, count-check, input-checks, First, Passed, first-bad}
+use Rattle.code.specs.Numbers.{Check, input-checks, First, Passed, first-bad}
 
 -- Where the first i cells have these values and cell i does not, the first bad cell is i.
 pub first-bad-at : (v : ℕ) (xs : List ℕ) (i : ℕ) → i < length xs → ((k : ℕ) → k < i → getD xs k 0 < v) → v ≤ getD xs i 0 → first-bad v xs ≡ i
@@ -41,14 +41,10 @@ first-bad-before v (x ∷ xs) k h = go k (ltb x v) refl h (first-bad-before v xs
     go zero true e h rest = ltb-true _ _ e
     go (suc k) true e h rest = rest k (omega arith)
 
--- A count from 1 to 256 passes.
-pub counted : (n : ℕ) → n ≢ 0 → n ≤ 256 → ¬ count-check n .applies
-counted n some few = ⊎-elim some (λ many. omega arith)
-
 -- Where 1 and 2 do not apply, the count and the length are right.
 module _ (n wanted input : ℕ) (p : Passed (input-checks n wanted input)) where
   pub passed-few : n ≤ 256
-  passed-few = by-cases (decLt 256 n) (λ h. absurd (p .0 (inr h))) (λ h. omega arith)
+  passed-few = by-cases (decLt 256 n) (λ h. absurd (p .0 h)) (λ h. omega arith)
 
   pub passed-exact : input ≡ wanted
   passed-exact = by-cases (ℕ-discrete input wanted) (λ e. e) (λ d. absurd (p .1 .0 d))
@@ -116,6 +112,18 @@ answered P (c ∷ cs) done before r after each h (inr a) = answered P cs done be
 -- None of the checks has this number.
 abbrev pub Avoids : ℕ → List {1} Check → Type 0
 Avoids k cs = Each (λ c. c .number ≢ k) cs
+
+-- The checks after the first.
+abbrev pub later : List {1} Check → List {1} Check
+later [] = []
+later (c ∷ cs) = cs
+
+-- The first check's number is given exactly where it applies.
+pub first-given : (c : Check) (cs : List {1} Check) (done : Result → List ℕ → Type 0) (before : List ℕ) (r : Result) (after : List ℕ) →
+    Avoids (c .number) cs → (done r after → r .answer ≢ c .number) → Answered (c ∷ cs) done before r after → (r .answer ≡ c .number) ↔ c .applies
+first-given c cs done before r after v d (inl a) = (λ e. a .0, λ h. ap answer-of (a .1 .result))
+first-given c cs done before r after v d (inr a) =
+    (λ e. absurd (answered (λ q _. q .answer ≢ c .number) cs done before r after v d (a .1) e), λ h. absurd (a .0 h))
 
 pub record Through (cs : List {1} Check) (rest : Type 0) : Type 0 where
   pub passed : Passed cs

@@ -1,9 +1,9 @@
 -- The supply: whatever the contracts allow has the three points, and returns what the documents say. That packing and unpacking undo
 -- each other is in proofs/Undoing.
-use mathlib.Core.Path.{_≡_, refl, sym}
-use mathlib.Core.Logic.{inl, inr}
+use mathlib.Core.Path.{_≡_, refl, sym, ap}
+use mathlib.Core.Logic.{inl, inr, ⊎-elim, _↔_}
 use mathlib.Core.List.{List, [], _∷_}
-use Prim.Native.Nat.{ℕ, _≤_}
+use Prim.Native.Nat.{ℕ, _<_, _≤_}
 use native.Mathlib.Omega.{arith}
 use lib.ListN.{length}
 use Rattle.code.specs.Record.{base}
@@ -12,7 +12,7 @@ use Rattle.code.specs.Payload.{payload-size}
 use Rattle.code.specs.Lost.{bit-values, read-values}
 use Rattle.code.specs.Reach.{flags-code}
 use Rattle.code.specs.Packed.{packed-size}
-use Rattle.code.specs.Numbers.{room-check, flag-check, reach-check, padding-check, input-checks, size-checks, image-checks}
+use Rattle.code.specs.Numbers.{count-check, room-check, flag-check, reach-check, padding-check, input-checks, size-checks, image-checks}
 use Rattle.code.specs.Calls.{
   Result,
   plain,
@@ -20,6 +20,7 @@ use Rattle.code.specs.Calls.{
   encode-checks,
   Encodes,
   read-checks,
+  ReadOrNot,
   early-checks,
   repair-checks,
   pack-checks,
@@ -49,12 +50,13 @@ use Rattle.code.specs.Supply.{
   near-by,
   MendPoint3,
   MendValues,
+  block-count,
 }
 use Rattle.code.proofs.Answering.{Leaves, Refusal, refusal, sizes, images, plain-leaves, read-leaves, mend-leaves}
 use Rattle.code.proofs.Determined.{Equal, encode-determined, read-determined, pack-determined, unpack-determined}
 use Rattle.code.proofs.Extras.{ExtrasNumbered, plain-answers-numbered, read-numbered, values-numbered}
 use Rattle.code.proofs.Mending.{names-by, Mends, mending-fixed, mending-demanded, mending-values}
-use Rattle.code.proofs.Numbers.{passed-exact, passed-both, each-append}
+use Rattle.code.proofs.Numbers.{passed-exact, passed-both, answer-of, each-append, later, first-given}
 use Rattle.code.proofs.RoundTrip.{round-trip}
 
 -- ## The contracts
@@ -130,6 +132,28 @@ point-1 input r after c =
       later = k .later;
       no-detail = k .no-detail;
     }
+
+-- ## Number 1
+
+-- It is given above 256 blocks only, by every call: the other checks and the answers past them have other numbers.
+pub number-1 : (input : Input) (r : Result) (after : List ℕ) → Right input r after → (r .answer ≡ 1) ↔ (256 < block-count input)
+number-1 (encode n payload before) r after =
+    first-given (count-check n) (later (encode-checks (base n) n payload before)) (Encodes (base n) n payload before) before r after (omega arith)
+    (λ a e. omega (arith, ap answer-of (a .result)))
+number-1 (read n image before) r after =
+    first-given (count-check n) (later (read-checks read-values (base n) n image before)) (ReadOrNot (base n) n image before) before r after (omega arith)
+    (⊎-elim (λ a e. omega (arith, ap answer-of (a .1 .result))) (λ a e. omega (arith, ap answer-of (a .1 .result))))
+number-1 (mend way n flags image before) r after =
+    let f = call-flags n flags image in
+    λ c. first-given (count-check n) (later (repair-checks read-values (base n) n flags f image before)) (Mends way (base n) (flags-code (base n) f) f image before) before r after (omega arith)
+    (⊎-elim (λ a e. omega (arith, ap answer-of (a .result))) (λ a e. omega (arith, ap answer-of (a .result))))
+    (mends way n flags image before r after c)
+number-1 (pack n image before) r after =
+    first-given (count-check n) (later (pack-checks n image before)) (Packs n image before) before r after (omega arith)
+    (λ a e. omega (arith, ap answer-of (a .result)))
+number-1 (unpack n packed before) r after =
+    first-given (count-check n) (later (unpack-checks n packed before)) (Unpacks n packed before) before r after (omega arith)
+    (λ a e. omega (arith, ap answer-of (a .result)))
 
 -- ## Point 2
 

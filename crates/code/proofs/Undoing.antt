@@ -66,7 +66,7 @@ module _ (n : ℕ) where
         let form = take packs after in
         let whole : length form ≡ packs = length-take-le packs after (omega (arith, s .fits, packed image before r after c z .done .stays .lengths)) in
         let p = passed-append (size-checks n packs (length form) images (length output)) (padding-check n form ∷ [])
-        (sizes-pass n packs (length form) images (length output) (s .counted) whole room) (no-padding n _ form (pack-form image before r after c z), tt) in
+        (sizes-pass n packs (length form) images (length output) (s .few) whole room) (no-padding n _ form (pack-form image before r after c z), tt) in
         ap answer-of (first-rest (unpack-checks n form output) (Refused q output last) (Unpacks n form output q last) p d .result);
     undone = λ image before r after c z output q last d y.
         let s = unpack-right (take packs after) output q last d y in
@@ -83,7 +83,7 @@ module _ (n : ℕ) where
         let u = unpacked form before r after c z .done in
         let image = take images after in
         let whole : length image ≡ images = length-take-le images after (omega (arith, s .fits, u .stays .lengths)) in
-        let p = image-pass bit-values n images image packs (length output) (sizes-pass n images (length image) packs (length output) (s .counted) whole room)
+        let p = image-pass bit-values n images image packs (length output) (sizes-pass n images (length image) packs (length output) (s .few) whole room)
         (λ i l. let h : i < images = omega arith in rw (getD-take images after i 0 h) (u .bits i h)) in
         ap answer-of (first-rest (pack-checks n image output) (Refused q output last) (Packs n image output q last) p d .result);
     undone = λ form before r after c z output q last d y.

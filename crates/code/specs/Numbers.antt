@@ -17,9 +17,9 @@ pub record Check : Type 1 where
   pub detail : ℕ
   pub applies : Type 0
 
--- 1: the block count is 0 or above 256.
+-- 1: the block count is above 256. A record of no blocks is one too (document 02, note 3).
 abbrev pub count-check : ℕ → Check
-count-check n = record { number = 1; detail = 0; applies = (n ≡ 0) ⊎ (256 < n) }
+count-check n = record { number = 1; detail = 0; applies = 256 < n }
 
 -- 2: the input's length is not the size that the call asks for.
 abbrev pub length-check : ℕ → ℕ → Check

@@ -26,7 +26,7 @@ pub record Shape : Type 0 where
   pub positions : ℕ
   pub closing : Closing
 
--- The shape of document 01: n blocks, N = 8n, 7 data tracks a set.
+-- The shape of document 01: n blocks, N = 8n, 7 data tracks a set. Of no blocks (document 02, note 3) a record is its tail.
 abbrev pub base : ℕ → Shape
 base n = record { t1 = 7; t2 = 7; positions = 8 * n; closing = closed-tail }
 
@@ -91,3 +91,7 @@ pub record Good (sh : Shape) (x : Cells) : Type 0 where
 -- Two records of a shape are the same.
 pub record Same (sh : Shape) (x y : Cells) : Type 0 where
   pub cell : (s : TrackSet) (t m : ℕ) → t < tracks sh s → m < track-length sh → x s t m ≡ y s t m
+
+-- The all-zero record.
+abbrev pub blank : Cells
+blank s t m = 0

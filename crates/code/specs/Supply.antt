@@ -1,14 +1,14 @@
 -- The three points of the supply, a record a point and a field a sentence, what document 01 says besides of the values that repair
--- and tracing return, and what document 02 says of packing and of lost cells. Whatever the contracts allow has them: `point-1`,
--- `point-2`, `point-3` and `values` of proofs/Supply, `packing-undone` and `unpacking-undone` of proofs/Undoing, `as-before` of
--- proofs/Lost.
+-- and tracing return, and what document 02 says of packing, of lost cells and of records of no blocks. Whatever the contracts allow
+-- has them: `point-1`, `point-2`, `point-3` and `values` of proofs/Supply, `packing-undone` and `unpacking-undone` of proofs/Undoing,
+-- `as-before` of proofs/Lost, `no-blocks` of proofs/NoBlocks.
 use mathlib.Core.Path.{_≡_}
 use mathlib.Core.Logic.{_⊎_, _≢_, _↔_}
 use mathlib.Core.Bool.{true, false}
 use mathlib.Core.List.{List, [], _∷_}
 use Prim.Native.Nat.{ℕ, _+_, _*_, _^_, _<_, _≤_}
-use lib.ListN.{length, getD, take}
-use Rattle.code.specs.Record.{TrackSet, A, B, Shape, base, tracks, track-length, Cells, Good, Same}
+use lib.ListN.{length, getD, take, drop}
+use Rattle.code.specs.Record.{TrackSet, A, B, Shape, base, tracks, track-length, Cells, Good, Same, blank}
 use Rattle.code.specs.Image.{track-number, all-tracks, image-size, cells}
 use Rattle.code.specs.Payload.{payload-size, Carries}
 use Rattle.code.specs.Flags.{TrackFlags, whole, word-flags, flag-count, Within}
@@ -25,6 +25,7 @@ use Rattle.code.specs.Contracts.{
   call-flags,
   Repaired,
   Traced,
+  Viewed,
   WasPacked,
   WasUnpacked,
 }
@@ -236,3 +237,40 @@ pub record AsBefore (n : ℕ) (image before : List ℕ) : Type 0 where
       Repaired n word image before r after ↔ RepairedBy bit-values n word (word-flags (base n) word) image before r after
   pub trace : (word : ℕ) (r : Result) (after : List ℕ) →
       Traced n word image before r after ↔ TracedBy bit-values n word (word-flags (base n) word) image before r after
+
+-- ## Document 02, note 3: records of no blocks
+
+-- The block count of a call.
+abbrev pub block-count : Input → ℕ
+block-count (encode n payload before) = n
+block-count (read n image before) = n
+block-count (mend way n flags image before) = n
+block-count (pack n image before) = n
+block-count (unpack n packed before) = n
+
+-- The first bytes are 0.
+abbrev pub Zeros : ℕ → List ℕ → Type 0
+Zeros size bytes = (i : ℕ) → i < size → getD bytes i 0 ≡ 0
+
+pub record NoBlocks : Type 0 where
+  -- "Count 0 becomes a record of its own: N = 0, fifteen tail positions, 270 cells, an empty payload." — packed, 36 bytes.
+  pub positions : base 0 .positions ≡ 0
+  pub track-cells : track-length (base 0) ≡ 15
+  pub image-bytes : image-size (base 0) ≡ 270
+  pub payload-bytes : payload-size (base 0) 0 ≡ 0
+  pub packed-bytes : packed-size 0 ≡ 36
+  -- "Its only good record is all zero."
+  pub good : (x : Cells) → Good (base 0) x ↔ Same (base 0) x blank
+  -- "Number 1 is now given above 256 only" — by each of the calls.
+  pub number-1 : (input : Input) (r : Result) (after : List ℕ) → Right input r after → (r .answer ≡ 1) ↔ (256 < block-count input)
+  -- So the encoder writes zeros, and the reader reads zeros alone and writes nothing;
+  pub encoded : (payload before : List ℕ) (r : Result) (after : List ℕ) → Encoded 0 payload before r after → r .answer ≡ 0 → Zeros 270 after
+  pub was-read : (image before : List ℕ) (r : Result) (after : List ℕ) → WasRead 0 image before r after → (r .answer ≡ 0 → Zeros 270 image) × (after ≡ before)
+  -- repair and tracing write zeros, exactly where the all-zero record is one that they may hand out.
+  pub mended : (way : Mending) (flags : ℕ) (image before : List ℕ) (r : Result) (after : List ℕ) → Right (mend way 0 flags image before) r after →
+      r .answer ≡ 0 → Zeros 270 after
+  pub found : (way : Mending) (flags : ℕ) (image before : List ℕ) (r : Result) (after : List ℕ) → Right (mend way 0 flags image before) r after →
+      MetNone (1 ∷ 2 ∷ 3 ∷ 4 ∷ 5 ∷ []) r → let f = call-flags 0 flags image in
+      Within (base 0) f → (r .answer ≡ 0) ↔ near-by way (base 0) (flags-code (base 0) f) f image blank
+  -- The track view hands over the fifteen cells of a track.
+  pub viewed : (image : List ℕ) (g : ℕ) (part : List ℕ) → Viewed 0 image g part → length image ≡ 270 → g < 18 → part ≡ take 15 (drop (g * 15) image)

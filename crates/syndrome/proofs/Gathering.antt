@@ -7,10 +7,10 @@ use native.Mathlib.Numerals.{add-one}
 use native.Mathlib.Decide.{ℕ-discrete}
 use native.Mathlib.Omega.{arith}
 use lib.ListN.{length}
-use Rattle.code.specs.Record.{TrackSet, A, B, Shape, tracks, track-length, Cells}
+use Rattle.code.specs.Record.{TrackSet, A, B, Shape, tracks, track-length, Cells, blank}
 use Rattle.code.specs.Sizes.{shape}
 use Rattle.code.specs.declared.Sizes.{Sizes}
-use Rattle.code.proofs.Linear.{_⊞_, blank, good-blank}
+use Rattle.code.proofs.Linear.{_⊞_, good-blank}
 use Rattle.code.proofs.OneTrack.{put, put-on, put-off, put-other, put-same}
 use Rattle.track.specs.Track.{Cleared}
 use Rattle.syndrome.specs.Syndrome.{Holds}

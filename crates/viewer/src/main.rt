@@ -50,8 +50,13 @@ fn run(image: &[u8]) {
     ask(1, first(image, 413), 0);
     ask(1, first(image, 415), 0);
     ask(1, first(image, 0), 0);
+    // No blocks: the same.
+    ask_all(0, first(image, 270));
+    ask(0, first(image, 270), 4294967295);
+    ask(0, first(image, 269), 0);
+    ask(0, first(image, 271), 0);
+    ask(0, first(image, 0), 0);
     // Other counts, each with the length that is right for it.
-    ask(0, first(image, 270), 0);
     ask(2, first(image, 558), 17);
     ask(256, first(image, 37134), 0);
     ask(256, first(image, 37134), 17);

@@ -1,10 +1,11 @@
 //! The comparison of the archive with document 01's examples and with the second decoder, in classes of inputs: each
 //! takes its generator, the number of rounds and the tally. The last three classes are those of packing and unpacking,
-//! the seven before them those of lost cells.
+//! the seven before them those of lost cells, and the one before these that of records of no blocks, which are in most
+//! other classes too.
 
 use crate::damage::{damage, lose, Random};
 use crate::ffi::{Answer, Call, LOST};
-use crate::second::{base, changed, code, expected, extra, number, Rules, Shape};
+use crate::second::{base, changed, code, expected, extra, lost_tracks, number, Rules, Shape};
 
 /// The answers that there are: 0 and the numbers.
 pub const ANSWERS: usize = 9;
@@ -23,7 +24,7 @@ pub const CALLS: [(&str, &[usize]); 6] = [
 pub type Class = fn(&mut Random, u64, &mut Tally);
 
 /// The classes, by the name that their generator has too.
-pub const CLASSES: [(&str, Class); 18] = [
+pub const CLASSES: [(&str, Class); 19] = [
     ("examples", examples),
     ("every_block_count", every_block_count),
     ("damaged_records", damaged_records),
@@ -32,6 +33,7 @@ pub const CLASSES: [(&str, Class); 18] = [
     ("all_flag_words", all_flag_words),
     ("lengths_and_cells", lengths_and_cells),
     ("too_many_is_too_many", too_many_is_too_many),
+    ("no_blocks", no_blocks),
     ("lost_cells", lost_cells),
     ("lost_limits", lost_limits),
     ("lost_noise", lost_noise),
@@ -151,7 +153,7 @@ impl Tally {
     /// A record with so many damaged tracks of A and of B that are flagged, or have lost cells, or both, and so many
     /// that are neither. Tracing goes by the table for the first, and names the others alone.
     fn limit(&mut self, random: &mut Random, wide: [usize; 2], extras: [usize; 2]) {
-        let blocks = 1 + random.below(12) as u32;
+        let blocks = few_blocks(random);
         let shape = Shape::base(blocks);
         let [a, b] = [0, 1].map(|set| tracks_of(random, shape, set, wide[set], 0));
         let outside = [0, 1].map(|set| tracks_of(random, shape, set, extras[set], a | b));
@@ -174,16 +176,85 @@ impl Tally {
             assert!(out == record, "flags {flags:#x}, lost {lost:#x}");
         }
     }
+
+    /// An image of no blocks, read, packed, and repaired and traced with each of these flags. The record of zeros is in
+    /// reach exactly if the code allows the tracks that are not zero, not flagged and without a lost cell; no other
+    /// record is good.
+    fn zeroed(&mut self, random: &mut Random, image: &[u8], all_flags: &[u32]) {
+        let shape = Shape::base(0);
+        let zeros = vec![0; shape.size()];
+        let room = random.below(20);
+        let (answer, _) = self.compare(random, Call::Read, 0, image, room);
+        assert_eq!(answer, number(if image == zeros { 0 } else { 7 }, 0));
+        match image.iter().position(|&x| x == LOST) {
+            None => self.packed(random, 0, image),
+            Some(first) => {
+                let (answer, _) = self.compare(random, Call::Pack, 0, image, shape.packed_size());
+                assert_eq!(answer, number(4, first as u32));
+            }
+        }
+        let (mask, cells) = changed(shape, image, &zeros);
+        for &flags in all_flags {
+            let wide = flags | lost_tracks(shape, image);
+            let code = code(shape, wide);
+            let outside = [0, 1].map(|set| mask & !wide & shape.word(set));
+            // Repair allows no extras.
+            for (call, code) in [(Call::Repair(flags), code.min(1)), (Call::Trace(flags), code)] {
+                let wanted = if flags >> 18 != 0 {
+                    number(5, 0)
+                } else if code == 0 {
+                    number(6, 0)
+                } else if in_reach(code, outside.map(|word| word.count_ones() as usize)) {
+                    let [extra_a, extra_b] = outside.map(extra);
+                    Answer { mask, cells, extra_a, extra_b, ..number(0, 0) }
+                } else {
+                    number(7, 0)
+                };
+                let (answer, out) = self.compare(random, call, 0, image, image.len());
+                assert_eq!(answer, wanted, "{call:?}");
+                assert!(answer.answer != 0 || out == zeros, "{call:?}");
+                assert!(answer.answer != 7 || out == image, "{call:?}");
+            }
+        }
+    }
+
+    /// An image packed, and unpacked again.
+    fn packed(&mut self, random: &mut Random, blocks: u32, image: &[u8]) {
+        self.there_and_back(random, [Call::Pack, Call::Unpack], blocks, image, Shape::base(blocks).packed_size());
+    }
+
+    /// An input turned by a call and turned back by the other, on longer outputs; the first result has this length.
+    fn there_and_back(&mut self, random: &mut Random, calls: [Call; 2], blocks: u32, input: &[u8], result: usize) {
+        let room = result + random.below(20);
+        let (_, mut out) = self.compare(random, calls[0], blocks, input, room);
+        out.truncate(result);
+        let room = input.len() + random.below(20);
+        let (answer, out) = self.compare(random, calls[1], blocks, &out, room);
+        assert!(answer == number(0, 0) && out[..input.len()] == *input, "{:?} and back, blocks {blocks}", calls[0]);
+    }
 }
 
 /// Does a code, not 0, allow so many extras of A and of B?
-fn in_reach(code: u32, extras: [usize; 2]) -> bool {
-    match (code, extras) {
-        (5, _) | (_, [0, 0]) => true,
-        (4, [a, b]) => a + b == 1,
-        (3, [a, _]) => a == 0,
-        (2, [_, b]) => b == 0,
-        _ => false,
+fn in_reach(code: u32, [a, b]: [usize; 2]) -> bool {
+    match code {
+        5 => a <= 1 && b <= 1,
+        4 => a + b <= 1,
+        3 => a == 0 && b <= 1,
+        2 => a <= 1 && b == 0,
+        _ => a + b == 0,
+    }
+}
+
+/// A block count up to 12.
+fn few_blocks(random: &mut Random) -> u32 {
+    random.below(13) as u32
+}
+
+/// A block count up to 12, and in one of 16 cases any.
+fn some_blocks(random: &mut Random) -> u32 {
+    match random.below(16) {
+        0 => random.below(257) as u32,
+        _ => few_blocks(random),
     }
 }
 
@@ -309,7 +380,7 @@ pub fn examples(random: &mut Random, _: u64, tally: &mut Tally) {
     };
     // The output of a call that answers so.
     let mut gives = |call: Call, blocks: u32, input: &[u8], wanted: Answer| {
-        let room = Shape::base(if blocks == 256 { 256 } else { 1 }).size();
+        let room = Shape::base(if blocks > 256 { 1 } else { blocks }).size();
         let (answer, out) = tally.compare(random, call, blocks, input, room);
         assert_eq!(answer, wanted, "{call:?}, blocks {blocks}");
         out
@@ -335,15 +406,23 @@ pub fn examples(random: &mut Random, _: u64, tally: &mut Tally) {
     gives(Call::Repair(526), 1, &ones(&[a(3, 1), b(20, 0)]), Answer { mask: 514, cells: 2, ..number(0, 0) });
     gives(Call::Repair(15), 1, &zero, number(6, 0));
     gives(Call::Repair(1 << 18), 1, &zero, number(5, 0));
-    // Counts 0 and 257, and 256 with 37,134 cells.
-    for blocks in [0, 257, u32::MAX] {
-        gives(Call::Encode, blocks, &payload, number(1, 0));
-        gives(Call::Read, blocks, &zero, number(1, 0));
-        gives(Call::Repair(0), blocks, &zero, number(1, 0));
-        gives(Call::Trace(0), blocks, &zero, number(1, 0));
+    // Count 257. 0 and 256 are taken, with 270 and 37,134 cells, and not with the lengths of one block.
+    for (blocks, wanted) in [(257, 1), (u32::MAX, 1), (0, 2), (256, 2)] {
+        gives(Call::Encode, blocks, &payload, number(wanted, 0));
+        gives(Call::Unpack, blocks, &[0; 54], number(wanted, 0));
+        for call in [Call::Read, Call::Repair(0), Call::Trace(0), Call::Pack] {
+            gives(call, blocks, &zero, number(wanted, 0));
+        }
     }
-    let large = vec![0u8; 37_134];
-    assert_eq!(gives(Call::Repair(0), 256, &large, number(0, 0)), large);
+    for (blocks, cells, bytes, packed) in [(0, 270, 0, 36), (256, 37_134, 3584, 4644)] {
+        let zeros = vec![0u8; cells];
+        assert_eq!(gives(Call::Encode, blocks, &zeros[..bytes], number(0, 0)), zeros);
+        assert_eq!(gives(Call::Read, blocks, &zeros, number(0, 0))[..bytes], zeros[..bytes]);
+        assert_eq!(gives(Call::Repair(0), blocks, &zeros, number(0, 0)), zeros);
+        assert_eq!(gives(Call::Trace(0), blocks, &zeros, number(0, 0)), zeros);
+        assert_eq!(gives(Call::Pack, blocks, &zeros, number(0, 0))[..packed], zeros[..packed]);
+        assert_eq!(gives(Call::Unpack, blocks, &zeros[..packed], number(0, 0)), zeros);
+    }
     // Cell value 3 first at index 40, and value 2, which only packing refuses, at 30.
     let mut image = zero;
     image[40] = 3;
@@ -360,7 +439,7 @@ pub fn examples(random: &mut Random, _: u64, tally: &mut Tally) {
 /// Every block count, once for 2400 rounds: three damaged tracks that are flagged.
 pub fn every_block_count(random: &mut Random, rounds: u64, tally: &mut Tally) {
     for _ in 0..rounds.div_ceil(2400) {
-        for blocks in 1..=256 {
+        for blocks in 0..=256 {
             let shape = Shape::base(blocks);
             let image = tally.record(random, blocks);
             let flags = random.tracks(shape, 3);
@@ -371,10 +450,10 @@ pub fn every_block_count(random: &mut Random, rounds: u64, tally: &mut Tally) {
     }
 }
 
-/// Records of 1 to 12 blocks with up to five damaged tracks, and all kinds of flags.
+/// Records of up to 12 blocks with up to five damaged tracks, and all kinds of flags.
 pub fn damaged_records(random: &mut Random, rounds: u64, tally: &mut Tally) {
     for _ in 0..rounds {
-        let blocks = 1 + random.below(12) as u32;
+        let blocks = few_blocks(random);
         tally.damaged(random, blocks, 5);
     }
 }
@@ -390,7 +469,7 @@ pub fn long_records(random: &mut Random, rounds: u64, tally: &mut Tally) {
 /// Images that are no record at all, with every kind of flags.
 pub fn noise(random: &mut Random, rounds: u64, tally: &mut Tally) {
     for _ in 0..rounds {
-        let blocks = 1 + random.below(12) as u32;
+        let blocks = few_blocks(random);
         let shape = Shape::base(blocks);
         let image: Vec<u8> = random.bytes(shape.size()).iter().map(|x| x & 1).collect();
         let tracks = some_tracks(random, shape, 5);
@@ -399,16 +478,28 @@ pub fn noise(random: &mut Random, rounds: u64, tally: &mut Tally) {
     }
 }
 
-/// All words of 18 flags, and bits from 18 up alone and beside too many.
+/// No blocks and one: all words of 18 flags, and bits from 18 up alone, beside a flag and beside too many. The flagged
+/// tracks are damaged, and with a code above 0 the record comes back.
 pub fn all_flag_words(random: &mut Random, _: u64, tally: &mut Tally) {
-    let shape = Shape::base(1);
-    let record = tally.record(random, 1);
-    let past = (18..32).flat_map(|g| [1 << g, 1 << g | 15]);
-    for flags in (0..1u32 << 18).chain(past) {
-        let mut image = record.clone();
-        damage(random, shape, &mut image, flags);
-        tally.compare(random, Call::Repair(flags), 1, &image, shape.size());
-        tally.compare(random, Call::Trace(flags), 1, &image, shape.size());
+    for blocks in [0, 1] {
+        let shape = Shape::base(blocks);
+        let record = tally.record(random, blocks);
+        let past = (18..32).flat_map(|g| [0, 1, 15].map(|others| 1 << g | others));
+        for flags in (0..1u32 << 18).chain(past) {
+            let mut image = record.clone();
+            damage(random, shape, &mut image, flags);
+            let (mask, cells) = changed(shape, &image, &record);
+            for call in [Call::Repair(flags), Call::Trace(flags)] {
+                let (answer, out) = tally.compare(random, call, blocks, &image, shape.size());
+                let wanted = match code(shape, flags) {
+                    _ if flags >> 18 != 0 => number(5, 0),
+                    0 => number(6, 0),
+                    _ => Answer { mask, cells, ..number(0, 0) },
+                };
+                assert_eq!(answer, wanted, "{call:?}, blocks {blocks}");
+                assert!(answer.answer != 0 || out == record, "{call:?}, blocks {blocks}");
+            }
+        }
     }
 }
 
@@ -446,10 +537,10 @@ pub fn lengths_and_cells(random: &mut Random, rounds: u64, tally: &mut Tally) {
     }
 }
 
-/// 6 is given where two good records agree off the flags, and from four blocks up nowhere else. In one of two rounds
-/// some of the tracks have lost cells instead of their flags.
+/// 6 is given where two good records agree off the flags, and from four blocks up nowhere else; of no blocks there are
+/// no two. In one of two rounds some of the tracks have lost cells instead of their flags.
 pub fn too_many_is_too_many(random: &mut Random, rounds: u64, tally: &mut Tally) {
-    for blocks in [1, 2, 4] {
+    for blocks in [0, 1, 2, 4] {
         let rules = base(blocks);
         for _ in 0..rounds / 30 {
             let mut image = tally.record(random, blocks);
@@ -458,6 +549,7 @@ pub fn too_many_is_too_many(random: &mut Random, rounds: u64, tally: &mut Tally)
             let lost = if random.below(2) == 0 { 0 } else { wide & random.next() as u32 };
             lose(random, rules.shape, &mut image, lost);
             let doubt = rules.doubt(&rules.flagged(wide)) > 0;
+            assert!(blocks > 0 || !doubt, "flags {wide:#x}");
             let too_many = doubt || blocks < 4 && code(rules.shape, wide) == 0;
             for call in [Call::Repair(wide & !lost), Call::Trace(wide & !lost)] {
                 let (answer, _) = tally.compare(random, call, blocks, &image, image.len());
@@ -467,11 +559,61 @@ pub fn too_many_is_too_many(random: &mut Random, rounds: u64, tally: &mut Tally)
     }
 }
 
-/// Records with lost cells, up to two damaged tracks and all kinds of flags: of 1 to 12 blocks, and of 200 to 256 in
+/// No blocks: inputs and outputs of every length up to 414. Images: each cell a 3, lost or a one alone, each two ones,
+/// and noise with lost cells, without flags, with a one's track flagged and with any flags.
+pub fn no_blocks(random: &mut Random, rounds: u64, tally: &mut Tally) {
+    let rules = base(0);
+    let zeros = tally.record(random, 0);
+    assert!(zeros == [0; 270]);
+    for (call, size, result) in [
+        (Call::Encode, 0, 270),
+        (Call::Read, 270, 0),
+        (Call::Repair(0), 270, 270),
+        (Call::Trace(0), 270, 270),
+        (Call::Pack, 270, 36),
+        (Call::Unpack, 36, 270),
+    ] {
+        for len in 0..=414 {
+            let (answer, _) = tally.compare(random, call, 0, &[0; 414][..len], result);
+            assert_eq!(answer, number(if len == size { 0 } else { 2 }, 0), "{call:?}, input of {len}");
+            let (answer, _) = tally.compare(random, call, 0, &zeros[..size], len);
+            assert_eq!(answer, number(if len < result { 3 } else { 0 }, 0), "{call:?}, output of {len}");
+        }
+    }
+    tally.zeroed(random, &zeros, &[0]);
+    for first in 0..270 {
+        let own = 1 << (first / 15);
+        let mut image = zeros.clone();
+        image[first] = 3;
+        for call in [Call::Read, Call::Repair(own), Call::Trace(own), Call::Pack] {
+            let (answer, _) = tally.compare(random, call, 0, &image, image.len());
+            assert_eq!(answer, number(4, first as u32), "{call:?}");
+        }
+        image[first] = LOST;
+        let flags = some_flags(random, rules.shape, own);
+        tally.zeroed(random, &image, &[0, own, flags]);
+        for second in first..270 {
+            image = zeros.clone();
+            image[first] = 1;
+            image[second] = 1;
+            let flags = some_flags(random, rules.shape, own | 1 << (second / 15));
+            tally.zeroed(random, &image, &[0, own, flags]);
+        }
+    }
+    for _ in 0..rounds {
+        let mut image = some_image(random, rules);
+        let lost = some_lost(random, rules.shape);
+        lose(random, rules.shape, &mut image, lost);
+        let flags = some_flags(random, rules.shape, lost);
+        tally.zeroed(random, &image, &[flags]);
+    }
+}
+
+/// Records with lost cells, up to two damaged tracks and all kinds of flags: of up to 12 blocks, and of 200 to 256 in
 /// one round of 60.
 pub fn lost_cells(random: &mut Random, rounds: u64, tally: &mut Tally) {
     for _ in 0..rounds {
-        let blocks = if random.below(60) == 0 { 200 + random.below(57) } else { 1 + random.below(12) } as u32;
+        let blocks = if random.below(60) == 0 { 200 + random.below(57) as u32 } else { few_blocks(random) };
         let shape = Shape::base(blocks);
         let mut image = tally.record(random, blocks);
         let damaged = some_tracks(random, shape, 2);
@@ -498,7 +640,7 @@ pub fn lost_limits(random: &mut Random, rounds: u64, tally: &mut Tally) {
 /// Images that are no record at all, with lost cells and every kind of flags.
 pub fn lost_noise(random: &mut Random, rounds: u64, tally: &mut Tally) {
     for _ in 0..rounds {
-        let blocks = 1 + random.below(12) as u32;
+        let blocks = few_blocks(random);
         let shape = Shape::base(blocks);
         let mut image: Vec<u8> = random.bytes(shape.size()).iter().map(|x| x & 1).collect();
         let lost = some_lost(random, shape);
@@ -512,7 +654,7 @@ pub fn lost_noise(random: &mut Random, rounds: u64, tally: &mut Tally) {
 /// first of these, for packing the first of all.
 pub fn lost_and_bad_cells(random: &mut Random, rounds: u64, tally: &mut Tally) {
     for _ in 0..rounds {
-        let blocks = 1 + random.below(12) as u32;
+        let blocks = few_blocks(random);
         let rules = base(blocks);
         let mut image = some_image(random, rules);
         let lost = some_lost(random, rules.shape);
@@ -529,44 +671,50 @@ pub fn lost_and_bad_cells(random: &mut Random, rounds: u64, tally: &mut Tally) {
     }
 }
 
-/// One block, a record and that of zeros: every value of a cell, and each cell lost alone, with no flags, with its own
-/// track flagged and with any.
+/// No blocks, and of one block a record and that of zeros: every value of a cell, and each cell lost alone, with no
+/// flags, with its own track flagged and with any.
 pub fn every_lost_cell(random: &mut Random, _: u64, tally: &mut Tally) {
-    let record = tally.record(random, 1);
-    for record in [vec![0; record.len()], record] {
+    let [none, record] = [0, 1].map(|blocks| tally.record(random, blocks));
+    for (blocks, record) in [(0, none), (1, vec![0; record.len()]), (1, record)] {
         for value in 0..=255 {
             let mut image = record.clone();
             image[random.below(record.len())] = value;
-            tally.lost(random, 1, 0, &image);
+            tally.lost(random, blocks, 0, &image);
         }
         for cell in 0..record.len() {
             let mut image = record.clone();
             image[cell] = LOST;
-            tally.lost(random, 1, 0, &image);
-            for flags in [0, 1 << (cell / 23), 1 << random.below(18)] {
-                tally.filled(random, 1, flags, &record, &image);
+            tally.lost(random, blocks, 0, &image);
+            for flags in [0, 1 << (cell / Shape::base(blocks).length()), 1 << random.below(18)] {
+                tally.filled(random, blocks, flags, &record, &image);
             }
         }
     }
 }
 
-/// One block: a lost cell in each track of every word of up to five tracks, and of all.
+/// No blocks and one: a lost cell in each track of every word of up to five tracks, and of all, without flags and with
+/// up to two.
 pub fn all_lost_words(random: &mut Random, _: u64, tally: &mut Tally) {
-    let shape = Shape::base(1);
-    let record = tally.record(random, 1);
     let up_to_five = (0..1u32 << 18).filter(|word| word.count_ones() <= 5);
-    for word in up_to_five.chain([(1 << 18) - 1]) {
-        let mut image = record.clone();
-        for g in (0..18).filter(|g| word >> g & 1 == 1) {
-            image[g * shape.length() + random.below(shape.length())] = LOST;
-        }
-        if code(shape, word) != 0 {
-            tally.filled(random, 1, 0, &record, &image);
-            continue;
-        }
-        for call in [Call::Repair(0), Call::Trace(0)] {
-            let (answer, _) = tally.compare(random, call, 1, &image, image.len());
-            assert_eq!(answer, number(6, 0), "{call:?}, lost {word:#x}");
+    let words: Vec<u32> = up_to_five.chain([(1 << 18) - 1]).collect();
+    for blocks in [0, 1] {
+        let shape = Shape::base(blocks);
+        let record = tally.record(random, blocks);
+        for &word in &words {
+            let mut image = record.clone();
+            for g in (0..18).filter(|g| word >> g & 1 == 1) {
+                image[g * shape.length() + random.below(shape.length())] = LOST;
+            }
+            for flags in [0, some_tracks(random, shape, 2)] {
+                if code(shape, word | flags) != 0 {
+                    tally.filled(random, blocks, flags, &record, &image);
+                    continue;
+                }
+                for call in [Call::Repair(flags), Call::Trace(flags)] {
+                    let (answer, _) = tally.compare(random, call, blocks, &image, image.len());
+                    assert_eq!(answer, number(6, 0), "{call:?}, blocks {blocks}, lost {word:#x}");
+                }
+            }
         }
     }
 }
@@ -574,7 +722,7 @@ pub fn all_lost_words(random: &mut Random, _: u64, tally: &mut Tally) {
 /// Every block count, once for 2400 rounds: lost cells in two tracks of each set, among them the image's last cell.
 pub fn lost_in_every_count(random: &mut Random, rounds: u64, tally: &mut Tally) {
     for _ in 0..rounds.div_ceil(2400) {
-        for blocks in 1..=256 {
+        for blocks in 0..=256 {
             let shape = Shape::base(blocks);
             let record = tally.record(random, blocks);
             let mut image = record.clone();
@@ -590,30 +738,19 @@ pub fn lost_in_every_count(random: &mut Random, rounds: u64, tally: &mut Tally) 
 /// and the others in one round of 16.
 pub fn packed_and_back(random: &mut Random, rounds: u64, tally: &mut Tally) {
     for _ in 0..rounds {
-        let most = if random.below(16) == 0 { 256 } else { 12 };
-        let blocks = 1 + random.below(most) as u32;
+        let blocks = some_blocks(random);
         let rules = base(blocks);
         let image = some_image(random, rules);
         let packed = some_packed(random, rules.shape, 0);
-        for (there, back, input, result) in [
-            (Call::Pack, Call::Unpack, image, rules.shape.packed_size()),
-            (Call::Unpack, Call::Pack, packed, rules.shape.size()),
-        ] {
-            let room = result + random.below(20);
-            let (_, mut out) = tally.compare(random, there, blocks, &input, room);
-            out.truncate(result);
-            let room = input.len() + random.below(20);
-            let (answer, out) = tally.compare(random, back, blocks, &out, room);
-            assert!(answer == number(0, 0) && out[..input.len()] == input, "{there:?} and back, blocks {blocks}");
-        }
+        tally.packed(random, blocks, &image);
+        tally.there_and_back(random, [Call::Unpack, Call::Pack], blocks, &packed, image.len());
     }
 }
 
 /// Packed forms with one padding bit that is 1, at each head place, and with several.
 pub fn padding(random: &mut Random, rounds: u64, tally: &mut Tally) {
     for _ in 0..rounds / 6 {
-        let most = if random.below(16) == 0 { 256 } else { 12 };
-        let blocks = 1 + random.below(most) as u32;
+        let blocks = some_blocks(random);
         let shape = Shape::base(blocks);
         let several = random.next() as u32 % (1 << 18);
         for places in (0..18).map(|place| 1 << place).chain([several, (1 << 18) - 1]) {

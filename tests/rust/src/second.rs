@@ -2,7 +2,8 @@
 //! equations over cell indices, for any shape of record, and unknown cells are found by peeling (an equation with one
 //! unknown cell gives it) and, where that stalls, by elimination, which also tells whether there are two solutions.
 //! Packing is document 02's note 1, bit after bit. Cells that a drive could not read are its note 2: `reading` alone
-//! tells what a byte of an image is, and the tracks with a lost cell join the flags before anything is looked up.
+//! tells what a byte of an image is, and the tracks with a lost cell join the flags before anything is looked up. The
+//! record of no blocks is its note 3: the same rules, over the tail alone.
 
 use crate::ffi::{Answer, Call, LOST, NO_EXTRA};
 use std::sync::OnceLock;
@@ -399,7 +400,7 @@ impl Rules {
     }
 }
 
-/// The rules of document 01's record, for up to 257 blocks; they are made once.
+/// The rules of document 01's record, for 0 to 257 blocks; they are made once.
 pub fn base(blocks: u32) -> &'static Rules {
     static ALL: [OnceLock<Rules>; 258] = [const { OnceLock::new() }; 258];
     ALL[blocks as usize].get_or_init(|| Rules::new(Shape::base(blocks)))
@@ -508,7 +509,7 @@ pub fn number(answer: u32, detail: u32) -> Answer {
 /// What documents 01 and 02 say of a call on an output of these bytes: the answer and every byte that it leaves there.
 pub fn expected(call: Call, blocks: u32, input: &[u8], before: &[u8]) -> (Answer, Vec<u8>) {
     let refused = |answer, detail| (number(answer, detail), before.to_vec());
-    if blocks == 0 || blocks > 256 {
+    if blocks > 256 {
         return refused(1, 0);
     }
     let shape = Shape::base(blocks);

@@ -49,6 +49,11 @@ fn too_many_is_too_many() {
 }
 
 #[test]
+fn no_blocks() {
+    compare("no_blocks");
+}
+
+#[test]
 fn lost_cells() {
     compare("lost_cells");
 }

@@ -5,7 +5,7 @@ use axp_tests::damage::Random;
 use axp_tests::ffi::{Answer, Call};
 use axp_tests::second::{expected, number, pack, Shape};
 
-const COUNTS: std::ops::RangeInclusive<u32> = 1..=256;
+const COUNTS: std::ops::RangeInclusive<u32> = 0..=256;
 
 /// The cells of a track, the bytes of an image and those of a packed form, as the documents give them.
 fn length(blocks: u32) -> usize {
@@ -99,7 +99,7 @@ fn every_cell() {
     let order: Vec<&str> = "A0 B0 A1 B1 A2 B2 A3 B3 A4 B4 A5 B5 A6 B6 A7 B7 A8 B8".split(' ').collect();
     let values = [128, 64, 32, 16, 8, 4, 2, 1];
     let mut random = Random::of("every cell");
-    for blocks in [1, 2] {
+    for blocks in [0, 1, 2] {
         for g in 0..18 {
             let name = if g < 9 { format!("A{g}") } else { format!("B{}", g - 9) };
             let place = order.iter().position(|track| *track == name).unwrap();
@@ -152,22 +152,25 @@ fn every_padding_bit() {
 #[test]
 fn bad_cells() {
     let mut random = Random::of("bad cells");
-    // At every index, alone and before another one.
-    let good = some_image(&mut random, 1);
-    for i in 0..good.len() {
-        let mut image = good.clone();
-        image[i] = 2 + random.below(254) as u8;
-        refuses(&mut random, Call::Pack, 1, &image, packed_size(1), number(4, i as u32));
-        let behind = i + random.below(good.len() - i);
-        image[behind] = 2 + random.below(254) as u8;
-        refuses(&mut random, Call::Pack, 1, &image, packed_size(1), number(4, i as u32));
-    }
-    // Every value.
-    for value in 2..=255 {
-        let mut image = good.clone();
-        let i = random.below(good.len());
-        image[i] = value;
-        refuses(&mut random, Call::Pack, 1, &image, packed_size(1), number(4, i as u32));
+    for blocks in [0, 1] {
+        // At every index, alone and before another one.
+        let good = some_image(&mut random, blocks);
+        let room = packed_size(blocks);
+        for i in 0..good.len() {
+            let mut image = good.clone();
+            image[i] = 2 + random.below(254) as u8;
+            refuses(&mut random, Call::Pack, blocks, &image, room, number(4, i as u32));
+            let behind = i + random.below(good.len() - i);
+            image[behind] = 2 + random.below(254) as u8;
+            refuses(&mut random, Call::Pack, blocks, &image, room, number(4, i as u32));
+        }
+        // Every value.
+        for value in 2..=255 {
+            let mut image = good.clone();
+            let i = random.below(good.len());
+            image[i] = value;
+            refuses(&mut random, Call::Pack, blocks, &image, room, number(4, i as u32));
+        }
     }
     // The first cell, the last one and one between, for every block count.
     for blocks in COUNTS {
@@ -188,7 +191,7 @@ fn lengths() {
     for blocks in COUNTS {
         let image = some_image(&mut random, blocks);
         let packed = some_packed(&mut random, blocks);
-        // A block has 144 cells in the image and 18 packed bytes.
+        // A block has 144 cells in the image and 18 packed bytes, less than the tail alone.
         for (call, input, block, result) in
             [(Call::Pack, &image, 144, packed.len()), (Call::Unpack, &packed, 18, image.len())]
         {
@@ -209,13 +212,15 @@ fn lengths() {
 #[test]
 fn block_counts() {
     let mut random = Random::of("block counts");
-    let mut counts = vec![0, 257, 258, 511, 512, 65_535, 65_536, 65_537, 1 << 31, u32::MAX - 1, u32::MAX];
+    let mut counts = vec![257, 258, 511, 65_535, u32::MAX - 1, u32::MAX];
+    // With one bit: their low bytes are a count of 0.
+    counts.extend((9..32).map(|k| 1 << k));
     counts.extend((8..32).map(|k| 1 + (1 << k)));
     counts.extend((0..100).map(|_| 257 + random.below(u32::MAX as usize - 256) as u32));
     for blocks in counts {
-        // The lengths of that count where they are near, and of one block.
+        // The lengths of that count where they are near, of one block, and of none.
         let near = if blocks < 1000 { blocks } else { 256 };
-        for n in [near, 1] {
+        for n in [near, 1, 0] {
             let image = some_image(&mut random, n);
             let packed = some_packed(&mut random, n);
             refuses(&mut random, Call::Pack, blocks, &image, packed.len(), number(1, 0));
@@ -228,7 +233,7 @@ fn block_counts() {
 fn checking_order() {
     // An input that is wrong in every way, and less and less so.
     let mut random = Random::of("checking order");
-    for blocks in [1, 2, 3, 12, 255, 256] {
+    for blocks in [0, 1, 2, 3, 12, 255, 256] {
         let (image_len, packed_len) = (image_size(blocks), packed_size(blocks));
         let mut image = some_image(&mut random, blocks);
         let cell = random.below(image_len);
@@ -242,7 +247,7 @@ fn checking_order() {
             // The wrong cell or bit is still there where the input is longer.
             let long = [&input[..], &[1]].concat();
             for room in [0, result - 1, result, result + 1] {
-                for wrong in [0, 257, u32::MAX] {
+                for wrong in [257, 1 << 16, u32::MAX] {
                     for input in [&input[..], &input[1..], &long, &[]] {
                         refuses(&mut random, call, wrong, input, room, number(1, 0));
                     }

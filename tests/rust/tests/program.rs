@@ -39,15 +39,21 @@ fn cases() -> Vec<(&'static str, Vec<u8>, String)> {
     one[23] = 1;
     let mut bad = zero.clone();
     bad[40] = 3;
-    // An image of one block that is 0 but for ones and lost cells, each by its track number and position.
-    let sparse = |ones: &[(usize, usize)], lost: &[(usize, usize)]| {
-        let mut image = vec![0u8; size(1)];
-        ones.iter().for_each(|(g, m)| image[g * 23 + m] = 1);
-        lost.iter().for_each(|(g, m)| image[g * 23 + m] = LOST);
+    // An image that is 0 but for ones and lost cells, each by its track number and position.
+    let sparse = |blocks: u32, ones: &[(usize, usize)], lost: &[(usize, usize)]| {
+        let shape = Shape::base(blocks);
+        let mut image = vec![0u8; shape.size()];
+        ones.iter().for_each(|(g, m)| image[g * shape.length() + m] = 1);
+        lost.iter().for_each(|(g, m)| image[g * shape.length() + m] = LOST);
         image
     };
-    let mut lost_and_bad = sparse(&[], &[(0, 10), (17, 22)]);
+    let mut lost_and_bad = sparse(1, &[], &[(0, 10), (17, 22)]);
     lost_and_bad[40] = 3;
+    // No blocks: 270 cells, and the whole of A3.
+    let none = vec![0u8; size(0)];
+    let mut none_bad = sparse(0, &[(2, 14)], &[(0, 10)]);
+    none_bad[269] = 3;
+    let whole: Vec<(usize, usize)> = (0..15).map(|m| (3, m)).collect();
     let mut random = Random(5);
     let rules = base(256);
     let (_, mut damaged) = random.record(rules);
@@ -60,7 +66,7 @@ fn cases() -> Vec<(&'static str, Vec<u8>, String)> {
     record[5 * 31..6 * 31].fill(LOST);
     vec![
         image("listing", 1, 0, &one),
-        image("count_0", 0, 0, &zero),
+        image("count_0", 0, 0, &none),
         image("count_1", 1, 0, &zero),
         image("count_256", 256, 0, &vec![0; size(256)]),
         image("count_257", 257, 0, &vec![0; size(256)]),
@@ -72,12 +78,24 @@ fn cases() -> Vec<(&'static str, Vec<u8>, String)> {
         image("too_many", 1, 15, &zero),
         image("repaired_256", 256, tracks, &damaged),
         image("lost_repaired", 2, 1 << 1 | 1 << 15, &record),
-        image("lost_zero", 1, 0, &sparse(&[], &[(1, 0), (17, 22)])),
-        image("lost_traced", 1, 0, &sparse(&[(2, 0)], &[(1, 0)])),
-        image("lost_no_record", 1, 0, &sparse(&[(2, 0), (3, 0)], &[(1, 0)])),
-        image("lost_too_many", 1, 3, &sparse(&[], &[(2, 8), (3, 22)])),
-        image("lost_flag_bit", 1, 1 << 18, &sparse(&[], &[(0, 0), (1, 0), (2, 0), (3, 0)])),
+        image("lost_zero", 1, 0, &sparse(1, &[], &[(1, 0), (17, 22)])),
+        image("lost_traced", 1, 0, &sparse(1, &[(2, 0)], &[(1, 0)])),
+        image("lost_no_record", 1, 0, &sparse(1, &[(2, 0), (3, 0)], &[(1, 0)])),
+        image("lost_too_many", 1, 3, &sparse(1, &[], &[(2, 8), (3, 22)])),
+        image("lost_flag_bit", 1, 1 << 18, &sparse(1, &[], &[(0, 0), (1, 0), (2, 0), (3, 0)])),
         image("lost_and_cell_value", 1, 0, &lost_and_bad),
+        image("no_blocks_traced", 0, 0, &sparse(0, &[(1, 14), (17, 0)], &[])),
+        image("no_blocks_repaired", 0, 1 << 3 | 1 << 9, &sparse(0, &whole, &[])),
+        image("no_blocks_no_record", 0, 0, &sparse(0, &[(1, 0), (2, 0)], &[])),
+        image("no_blocks_lost", 0, 0, &sparse(0, &[], &[(8, 14)])),
+        image("no_blocks_lost_no_record", 0, 0, &sparse(0, &[(2, 0), (3, 0)], &[(1, 0)])),
+        image("no_blocks_too_many", 0, 15, &none),
+        image("no_blocks_flag_bit", 0, 1 << 18, &none),
+        image("no_blocks_cell_value", 0, 0, &none_bad),
+        image("no_blocks_one_byte_less", 0, 0, &zero[..269]),
+        image("no_blocks_one_byte_more", 0, 0, &zero[..271]),
+        image("no_blocks_length_of_one", 0, 0, &zero),
+        image("no_blocks_no_image", 0, 0, &[]),
         ("short", vec![0, 1, 0, 0, 0], "axp short\n".to_string()),
     ]
 }

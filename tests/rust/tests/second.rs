@@ -1,6 +1,6 @@
 //! The second decoder against the rules themselves, for other shapes than document 01's: unequal sets, no blocks, open
-//! tails, and unknown cells that are no whole tracks. Its packing against note 1 of document 02 and its lost cells
-//! against note 2, worked out by hand.
+//! tails, and unknown cells that are no whole tracks. Its packing against note 1 of document 02, its lost cells against
+//! note 2 and its record of no blocks against note 3, worked out by hand.
 
 use axp_tests::damage::{damage, lose, rounds, Random};
 use axp_tests::ffi::{Answer, Call, LOST};
@@ -197,6 +197,26 @@ fn no_blocks() {
 }
 
 #[test]
+fn no_blocks_by_trial() {
+    // One data track a set: of all images of 18 cells one is good.
+    for closing in CLOSINGS {
+        let rules = Rules::new(Shape { t1: 1, t2: 1, positions: 0, closing });
+        for ones in 0..1u32 << 18 {
+            let image: Vec<u8> = (0..18).map(|c| (ones >> c & 1) as u8).collect();
+            assert_eq!(rules.is_good(&image), ones == 0, "{closing:?}, ones {ones:#x}");
+        }
+    }
+    // Seven: none with a single one or with two.
+    let rules = base(0);
+    assert!(rules.is_good(&[0; 270]));
+    for first in 0..270 {
+        for second in first..270 {
+            assert!(!rules.is_good(&bytes(270, &[(first, 1), (second, 1)])), "cells {first} and {second}");
+        }
+    }
+}
+
+#[test]
 #[should_panic(expected = "cells left over")]
 fn two_records() {
     let rules = Rules::new(Shape::base(4));
@@ -245,8 +265,13 @@ fn packed_cells() {
         assert_eq!(pack(Shape::base(1), &image), packed, "cell {cell}");
         assert_eq!(unpack(Shape::base(1), &packed), Some(image), "cell {cell}");
     }
-    // Two blocks, 31 cells and 4 bytes: B0, B8. 256 blocks, 2063 cells and 258 bytes: B0, A1, and B8's last cell.
+    // No blocks, 15 cells and 2 bytes: A0's last cell, B0, A1, and B8's last cell. Two blocks, 31 cells and 4 bytes:
+    // B0, B8. 256 blocks, 2063 cells and 258 bytes: B0, A1, and B8's last cell.
     for (blocks, cell, byte, value) in [
+        (0, 14, 1, 2),
+        (0, 135, 2, 128),
+        (0, 15, 4, 128),
+        (0, 269, 35, 2),
         (2, 279, 4, 128),
         (2, 557, 71, 2),
         (256, 18_567, 258, 128),
@@ -293,31 +318,38 @@ fn packed_images() {
 
 #[test]
 fn padding_bits() {
-    // The last bits of the eighteen tracks, and no others.
-    let shape = Shape::base(1);
-    for byte in 0..54 {
-        for value in [128, 64, 32, 16, 8, 4, 2, 1] {
-            let accepted = unpack(shape, &bytes(54, &[(byte, value)])).is_some();
-            assert_eq!(accepted, value != 1 || byte % 3 != 2, "byte {byte}, value {value}");
+    // The last bits of the eighteen tracks, and no others. A track of no blocks has two bytes, one of one block three.
+    for (blocks, track) in [(0, 2), (1, 3)] {
+        let shape = Shape::base(blocks);
+        let size = 18 * track;
+        for byte in 0..size {
+            for value in [128, 64, 32, 16, 8, 4, 2, 1] {
+                let accepted = unpack(shape, &bytes(size, &[(byte, value)])).is_some();
+                assert_eq!(accepted, value != 1 || byte % track != track - 1, "byte {byte}, value {value}");
+            }
         }
+        assert!(unpack(shape, &vec![255; size]).is_none());
     }
-    assert!(unpack(shape, &[255; 54]).is_none());
+}
+
+/// A call that is given this number with its detail: the output stays.
+fn refused(call: Call, blocks: u32, input: &[u8], room: usize, wanted: (u32, u32)) {
+    let before = vec![9; room];
+    let answer = number(wanted.0, wanted.1);
+    assert_eq!(expected(call, blocks, input, &before), (answer, before), "{call:?}, {blocks}, output of {room}");
 }
 
 #[test]
 fn numbers_of_packing() {
-    // One block: 414 cells and 54 bytes. The first that applies is given, and the output stays.
-    let refused = |call: Call, blocks: u32, input: &[u8], room: usize, wanted: (u32, u32)| {
-        let before = vec![9; room];
-        let answer = number(wanted.0, wanted.1);
-        assert_eq!(expected(call, blocks, input, &before), (answer, before), "{call:?}, {blocks}, output of {room}");
-    };
+    // One block: 414 cells and 54 bytes. The first that applies is given.
     let image = bytes(414, &[(40, 2), (300, 255)]);
     let packed = bytes(54, &[(53, 1)]);
-    for blocks in [0, 257, u32::MAX] {
+    for blocks in [257, u32::MAX] {
         refused(Call::Pack, blocks, &image[1..], 53, (1, 0));
         refused(Call::Unpack, blocks, &packed[1..], 413, (1, 0));
     }
+    refused(Call::Pack, 0, &image, 54, (2, 0));
+    refused(Call::Unpack, 0, &packed, 414, (2, 0));
     refused(Call::Pack, 1, &image[..413], 53, (2, 0));
     refused(Call::Pack, 1, &[2; 415], 53, (2, 0));
     refused(Call::Pack, 1, &packed, 54, (2, 0));
@@ -335,11 +367,13 @@ fn numbers_of_packing() {
     assert_eq!(expected(Call::Pack, 1, &[0; 414], &[9; 56]), (number(0, 0), after));
     after = bytes(415, &[(414, 9)]);
     assert_eq!(expected(Call::Unpack, 1, &[0; 54], &[9; 415]), (number(0, 0), after));
-    // Counts of 256: 37,134 cells and 4,644 bytes.
-    let (answer, after) = expected(Call::Pack, 256, &[0; 37_134], &[9; 4644]);
-    assert!(answer == number(0, 0) && after == [0; 4644]);
-    let (answer, after) = expected(Call::Unpack, 256, &[0; 4644], &[9; 37_134]);
-    assert!(answer == number(0, 0) && after == [0; 37_134]);
+    // No blocks, 270 cells and 36 bytes, and 256, 37,134 cells and 4,644 bytes.
+    for (blocks, size, packed_size) in [(0, 270, 36), (256, 37_134, 4644)] {
+        for (call, input, result) in [(Call::Pack, size, packed_size), (Call::Unpack, packed_size, size)] {
+            let (answer, after) = expected(call, blocks, &vec![0; input], &vec![9; result]);
+            assert!(answer == number(0, 0) && after == vec![0; result], "{call:?}, {blocks}");
+        }
+    }
 }
 
 #[test]
@@ -350,31 +384,42 @@ fn readings() {
         assert_eq!(is_bit(byte), byte < 2, "{byte}");
     }
     // A good record has no lost cell, whatever its other cells are.
-    let rules = base(1);
-    for cell in 0..414 {
-        let image = bytes(414, &[(cell, LOST)]);
-        assert_eq!(lost_tracks(rules.shape, &image), 1 << (cell / 23), "cell {cell}");
-        assert!(!rules.is_good(&image), "cell {cell}");
+    for (blocks, length) in [(0, 15), (1, 23)] {
+        let rules = base(blocks);
+        let size = 18 * length;
+        for cell in 0..size {
+            let image = bytes(size, &[(cell, LOST)]);
+            assert_eq!(lost_tracks(rules.shape, &image), 1 << (cell / length), "blocks {blocks}, cell {cell}");
+            assert!(!rules.is_good(&image), "blocks {blocks}, cell {cell}");
+        }
+        assert!(rules.is_good(&vec![0; size]) && lost_tracks(rules.shape, &vec![1; size]) == 0, "blocks {blocks}");
     }
-    assert!(rules.is_good(&[0; 414]) && lost_tracks(rules.shape, &[1; 414]) == 0);
 }
 
-/// A call on one block, on an image that is 0 but for these cells: it answers so, and leaves the record of zeros, or
-/// with 7 the image, or with another number the output as it came.
-fn gives(call: Call, cells: &[(usize, u8)], wanted: Answer) {
-    let image = bytes(414, cells);
-    let after = match (wanted.answer, call) {
-        (0, _) => vec![0; 414],
+/// A call on an image of so many blocks that is 0 but for these cells: it answers so, and leaves the record of zeros,
+/// or with 7 the image, or with another number the output as it came.
+fn gives(blocks: u32, call: Call, cells: &[(usize, u8)], wanted: Answer) {
+    let size = Shape::base(blocks).size();
+    let image = bytes(size, cells);
+    let mut after = match (wanted.answer, call) {
+        (0, _) => vec![0; size],
         (7, Call::Repair(_) | Call::Trace(_)) => image.clone(),
-        _ => vec![9; 414],
+        _ => vec![9; size],
     };
-    assert_eq!(expected(call, 1, &image, &[9; 415]), (wanted, [&after[..], &[9]].concat()), "{call:?}, {cells:?}");
+    after.push(9);
+    let given = expected(call, blocks, &image, &vec![9; size + 1]);
+    assert_eq!(given, (wanted, after), "{call:?}, blocks {blocks}, {cells:?}");
 }
 
 /// The same of repair and of tracing.
-fn both_give(flags: u32, cells: &[(usize, u8)], wanted: Answer) {
-    gives(Call::Repair(flags), cells, wanted);
-    gives(Call::Trace(flags), cells, wanted);
+fn both_give(blocks: u32, flags: u32, cells: &[(usize, u8)], wanted: Answer) {
+    gives(blocks, Call::Repair(flags), cells, wanted);
+    gives(blocks, Call::Trace(flags), cells, wanted);
+}
+
+/// Answer 0 with this mask and so many cells, and no extra.
+fn filled(mask: u32, cells: u32) -> Answer {
+    Answer { mask, cells, ..number(0, 0) }
 }
 
 // One block: A1 begins at 23, A2 at 46, A3 at 69, A4 at 92, B0 at 207, B1 at 230, B3 at 276.
@@ -382,23 +427,22 @@ fn both_give(flags: u32, cells: &[(usize, u8)], wanted: Answer) {
 #[test]
 fn lost_examples() {
     // A lost cell that is filled with 0 counts. Its track is no extra, flagged or not, and is repaired as a whole.
-    let filled = |mask: u32, cells: u32| Answer { mask, cells, ..number(0, 0) };
-    both_give(0, &[(23, 2)], filled(2, 1));
-    both_give(2, &[(23, 2), (45, 1)], filled(2, 2));
-    both_give(0, &[(23, 2), (45, 1)], filled(2, 2));
+    both_give(1, 0, &[(23, 2)], filled(2, 1));
+    both_give(1, 2, &[(23, 2), (45, 1)], filled(2, 2));
+    both_give(1, 0, &[(23, 2), (45, 1)], filled(2, 2));
     let whole: Vec<(usize, u8)> = (92..115).map(|i| (i, 2)).collect();
-    both_give(0, &whole, filled(16, 23));
+    both_give(1, 0, &whole, filled(16, 23));
     // A cell of A2 beside one lost in A1: an extra.
-    gives(Call::Repair(0), &[(23, 2), (46, 1)], number(7, 0));
-    gives(Call::Trace(0), &[(23, 2), (46, 1)], Answer { extra_a: 2, ..filled(6, 2) });
+    gives(1, Call::Repair(0), &[(23, 2), (46, 1)], number(7, 0));
+    gives(1, Call::Trace(0), &[(23, 2), (46, 1)], Answer { extra_a: 2, ..filled(6, 2) });
     // Beside two of A, only one of B; beside two and one, none.
-    both_give(0, &[(23, 2), (46, 2), (69, 1)], number(7, 0));
-    gives(Call::Trace(0), &[(23, 2), (46, 2), (276, 1)], Answer { extra_b: 12, ..filled(6 | 1 << 12, 3) });
-    both_give(1 << 10, &[(23, 2), (46, 2), (276, 1)], number(7, 0));
+    both_give(1, 0, &[(23, 2), (46, 2), (69, 1)], number(7, 0));
+    gives(1, Call::Trace(0), &[(23, 2), (46, 2), (276, 1)], Answer { extra_b: 12, ..filled(6 | 1 << 12, 3) });
+    both_give(1, 1 << 10, &[(23, 2), (46, 2), (276, 1)], number(7, 0));
     // Three and one, two and two; a track that is flagged and has a lost cell is one.
-    both_give(0, &[(23, 2), (46, 2), (69, 2), (207, 2)], filled(526, 4));
-    both_give(526, &[(23, 2), (229, 2)], filled(514, 2));
-    both_give(6, &[(207, 2), (276, 2)], filled(1 << 9 | 1 << 12, 2));
+    both_give(1, 0, &[(23, 2), (46, 2), (69, 2), (207, 2)], filled(526, 4));
+    both_give(1, 526, &[(23, 2), (229, 2)], filled(514, 2));
+    both_give(1, 6, &[(207, 2), (276, 2)], filled(1 << 9 | 1 << 12, 2));
     // Document 01's record of payload 128 with A(0,1), which is 1, lost.
     let record = encode(base(1), &[128, 0, 0, 0, 0, 0, 0, 0, 0, 0, 0, 0, 0, 0]);
     let mut image = record.clone();
@@ -412,21 +456,83 @@ fn lost_examples() {
 fn numbers_of_lost_cells() {
     // All cells, four tracks of a set, and three and two.
     let all: Vec<(usize, u8)> = (0..414).map(|i| (i, 2)).collect();
-    both_give(0, &all, number(6, 0));
-    both_give(0, &[(0, 2), (23, 2), (46, 2), (69, 2)], number(6, 0));
-    both_give(7, &[(69, 2)], number(6, 0));
-    both_give(1 << 9, &[(23, 2), (46, 2), (69, 2), (230, 2)], number(6, 0));
+    both_give(1, 0, &all, number(6, 0));
+    both_give(1, 0, &[(0, 2), (23, 2), (46, 2), (69, 2)], number(6, 0));
+    both_give(1, 7, &[(69, 2)], number(6, 0));
+    both_give(1, 1 << 9, &[(23, 2), (46, 2), (69, 2), (230, 2)], number(6, 0));
     // 5 is about the flag word alone, and comes before 6.
-    both_give(1 << 18, &[(0, 2), (23, 2), (46, 2), (69, 2)], number(5, 0));
+    both_give(1, 1 << 18, &[(0, 2), (23, 2), (46, 2), (69, 2)], number(5, 0));
     // 4 is about cells above 2, for packing above 1, and comes before both.
-    both_give(1 << 18 | 15, &[(10, 2), (40, 3), (41, 255), (413, 2)], number(4, 40));
-    gives(Call::Read, &[(10, 2), (40, 3), (41, 255)], number(4, 40));
-    gives(Call::Pack, &[(10, 2), (40, 3)], number(4, 10));
+    both_give(1, 1 << 18 | 15, &[(10, 2), (40, 3), (41, 255), (413, 2)], number(4, 40));
+    gives(1, Call::Read, &[(10, 2), (40, 3), (41, 255)], number(4, 40));
+    gives(1, Call::Pack, &[(10, 2), (40, 3)], number(4, 10));
     for call in [Call::Read, Call::Repair(0), Call::Trace(0), Call::Pack] {
-        gives(call, &[(10, 3), (40, 2)], number(4, 10));
+        gives(1, call, &[(10, 3), (40, 2)], number(4, 10));
     }
-    gives(Call::Pack, &[(413, 2)], number(4, 413));
-    gives(Call::Read, &[(413, 2)], number(7, 0));
+    gives(1, Call::Pack, &[(413, 2)], number(4, 413));
+    gives(1, Call::Read, &[(413, 2)], number(7, 0));
+}
+
+// No blocks: A1 begins at 15, A2 at 30, A3 at 45, B0 at 135, B3 at 180, B8 at 255.
+
+#[test]
+fn no_block_examples() {
+    // The record of zeros has an empty payload.
+    assert_eq!(expected(Call::Encode, 0, &[], &[9; 271]), (number(0, 0), bytes(271, &[(270, 9)])));
+    for room in [0, 1, 14] {
+        assert_eq!(expected(Call::Read, 0, &[0; 270], &vec![9; room]), (number(0, 0), vec![9; room]));
+    }
+    both_give(0, 0, &[], filled(0, 0));
+    both_give(0, 526, &[], filled(0, 0));
+    // No other is good: a cell that is 1 is an extra's, or a flagged track's, or out of reach.
+    gives(0, Call::Read, &[(15, 1)], number(7, 0));
+    gives(0, Call::Repair(0), &[(15, 1)], number(7, 0));
+    gives(0, Call::Trace(0), &[(15, 1)], Answer { extra_a: 1, ..filled(2, 1) });
+    gives(0, Call::Trace(0), &[(29, 1), (269, 1)], Answer { extra_a: 1, extra_b: 17, ..filled(2 | 1 << 17, 2) });
+    both_give(0, 2, &[(15, 1), (29, 1)], filled(2, 2));
+    both_give(0, 0, &[(15, 1), (30, 1)], number(7, 0));
+    gives(0, Call::Trace(6), &[(15, 1), (180, 1)], Answer { extra_b: 12, ..filled(2 | 1 << 12, 2) });
+    both_give(0, 6, &[(15, 1), (45, 1)], number(7, 0));
+    both_give(0, 526, &[(15, 1), (149, 1)], filled(514, 2));
+    // Lost cells.
+    both_give(0, 0, &[(15, 2), (269, 2)], filled(2 | 1 << 17, 2));
+    gives(0, Call::Trace(0), &[(15, 2), (30, 1)], Answer { extra_a: 2, ..filled(6, 2) });
+    both_give(0, 0, &[(15, 2), (30, 1), (45, 1)], number(7, 0));
+    gives(0, Call::Read, &[(269, 2)], number(7, 0));
+}
+
+#[test]
+fn numbers_of_no_blocks() {
+    for call in [Call::Encode, Call::Read, Call::Repair(0), Call::Trace(0), Call::Pack, Call::Unpack] {
+        for blocks in [257, 512, 65_536, u32::MAX] {
+            refused(call, blocks, &[], 0, (1, 0));
+            refused(call, blocks, &[0; 270], 270, (1, 0));
+        }
+    }
+    for call in [Call::Read, Call::Repair(0), Call::Trace(0), Call::Pack] {
+        for len in [0, 269, 271, 414] {
+            refused(call, 0, &vec![3; len], 270, (2, 0));
+        }
+        gives(0, call, &[(40, 3), (41, 255)], number(4, 40));
+    }
+    for len in [1, 14] {
+        refused(Call::Encode, 0, &vec![0; len], 269, (2, 0));
+    }
+    for len in [0, 35, 37, 54] {
+        refused(Call::Unpack, 0, &vec![255; len], 269, (2, 0));
+    }
+    refused(Call::Encode, 0, &[], 269, (3, 0));
+    refused(Call::Repair(0), 0, &[3; 270], 269, (3, 0));
+    refused(Call::Trace(0), 0, &[3; 270], 269, (3, 0));
+    refused(Call::Pack, 0, &[3; 270], 35, (3, 0));
+    refused(Call::Unpack, 0, &[255; 36], 269, (3, 0));
+    refused(Call::Unpack, 0, &bytes(36, &[(35, 1)]), 270, (8, 0));
+    gives(0, Call::Pack, &[(15, 2), (40, 3)], number(4, 15));
+    // 5 comes before 6, which goes by the table though no flags leave doubt.
+    both_give(0, 1 << 18 | 15, &[], number(5, 0));
+    both_give(0, 15, &[], number(6, 0));
+    both_give(0, 7, &[(45, 2)], number(6, 0));
+    both_give(0, (1 << 18) - 1, &[(15, 1)], number(6, 0));
 }
 
 /// A record or noise, with a damaged track or none and lost cells in up to three, and a flag word of up to three.
@@ -449,7 +555,7 @@ fn lost_cells() {
     // As flags on an image in which 0 or 1 stands for the lost cells, but for what counts as changed.
     let mut random = Random::of("lost cells");
     for _ in 0..rounds(2400) {
-        let blocks = 1 + random.below(3) as u32;
+        let blocks = random.below(4) as u32;
         let rules = base(blocks);
         let (image, word) = some_lost(&mut random, rules);
         let lost: Vec<usize> = (0..image.len()).filter(|&c| image[c] == 2).collect();
@@ -480,7 +586,7 @@ fn no_lost_cells() {
     // Images without one: the flag word decides alone, as it did before note 2.
     let mut random = Random::of("no lost cells");
     for _ in 0..rounds(2400) / 2 {
-        let blocks = 1 + random.below(3) as u32;
+        let blocks = random.below(4) as u32;
         let rules = base(blocks);
         let (mut image, word) = some_lost(&mut random, rules);
         image.iter_mut().filter(|x| **x == 2).for_each(|x| *x = 1);

@@ -1,6 +1,6 @@
 -- `check_input`: each way out is the first check that applies.
 use mathlib.Core.Logic.{inl, inr}
-use Rattle.code.proofs.Numbers.{counted}
+use native.Mathlib.Omega.{arith}
 use borrow.Author.Needs.{needs}
 use Rattle.checks.proofs.check_input.Statement.{statement}
 use Rattle.checks.proofs.check_input.Tie as tie
@@ -9,29 +9,23 @@ plain-answer-requires : tie.Need-plain-answer-requires
 plain-answer-requires c κs = search needs
 
 returns : tie.Need-returns
-returns c = inl (inl (c .before .if1 .taken), c .plain-answer .ensures)
+returns c = inl (c .before .if1 .taken, c .plain-answer .ensures)
 
 plain-answer-requires-2 : tie.Need-plain-answer-requires-2
 plain-answer-requires-2 c κs = search needs
 
 returns-2 : tie.Need-returns-2
-returns-2 c = inl (inr (c .before .if2 .taken), c .plain-answer2 .ensures)
+returns-2 c =
+    let few = c .before .before .if1 .left in
+    inr (λ many. omega arith, inl (c .before .if2 .taken, c .plain-answer2 .ensures))
 
 plain-answer-requires-3 : tie.Need-plain-answer-requires-3
 plain-answer-requires-3 c κs = search needs
 
 returns-3 : tie.Need-returns-3
 returns-3 c =
-    let e = c .before .before in
-    inr (counted _ (e .before .if1 .left) (e .if2 .left), inl (c .before .if3 .taken, c .plain-answer3 .ensures))
-
-plain-answer-requires-4 : tie.Need-plain-answer-requires-4
-plain-answer-requires-4 c κs = search needs
-
-returns-4 : tie.Need-returns-4
-returns-4 c =
-    let e = c .before .before in
-    inr (counted _ (e .before .if1 .left) (e .if2 .left), inr (λ d. d (c .before .if3 .left), c .plain-answer4 .ensures))
+    let few = c .before .before .if1 .left in
+    inr (λ many. omega arith, inr (λ d. d (c .before .if2 .left), c .plain-answer3 .ensures))
 
 pub check-input-spec : {M : Type 1} → statement M
 check-input-spec =
@@ -42,6 +36,4 @@ check-input-spec =
     plain-answer-requires-2
     returns-2
     plain-answer-requires-3
-    returns-3
-    plain-answer-requires-4
-    returns-4)
+    returns-3)

@@ -1,6 +1,7 @@
 -- `padding_set`: the loop's invariant is that the padding bits of the first p places are 0.
-use mathlib.Core.Path.{_≡_}
+use mathlib.Core.Path.{sym}
 use mathlib.Core.Logic.{_≢_}
+use mathlib.Core.Bool.{true≢false}
 use Prim.Native.Nat.{ℕ, _+_, _*_, _%_, _≤_, _-_, _<_}
 use native.Mathlib.Omega.{arith}
 use borrow.Author.Count.{below-more}
@@ -47,7 +48,7 @@ returns c =
     let i = c .before .before in
     record {
       some = λ e. record { place = i .before .loop .p; inside = i .loop-test .taken; bit = c .if1 .taken };
-      none = λ e. let z : _≡_ {A = ℕ} 0 1 = cc in absurd (omega arith);
+      none = λ e. absurd (true≢false e);
     }
 
 add-p : tie.Need-add-p Inv-loop μ-loop
@@ -65,7 +66,7 @@ returns-2 : tie.Need-returns-2 Inv-loop μ-loop
 returns-2 c =
     let l = c .before .loop in
     record {
-      some = λ e. let z : _≡_ {A = ℕ} 0 1 = cc in absurd (omega arith);
+      some = λ e. absurd (true≢false (sym e));
       none = λ e s. l .inv .1 (s .place) (omega (arith, s .inside)) (s .bit);
     }
 
