@@ -13,7 +13,7 @@ use Rattle.code.specs.Calls.{Result, view-checks}
 use Rattle.code.specs.Supply.{MetNone, Mending, repair, trace, read, near-by, Zeros, NoBlocks}
 use Rattle.code.proofs.Linear.{same-sym, good-blank, good-same}
 use Rattle.code.proofs.Numbers.{first-rest}
-use Rattle.code.proofs.Places.{each-cell}
+use Rattle.code.proofs.Places.{cell-lt, each-cell}
 use Rattle.code.proofs.Supply.{point-1, point-2, point-3, number-1}
 use Rattle.code.proofs.Unique.{unique-data}
 
@@ -27,6 +27,9 @@ only-zero sh e x = (
 -- The bytes of a good record of no blocks.
 zeros : (bytes : List ℕ) → Good (base 0) (cells (base 0) bytes) → Zeros 270 bytes
 zeros bytes g = each-cell (base 0) (λ i. getD bytes i 0 ≡ 0) (only-zero (base 0) refl _ .0 g .cell)
+
+zeros-good : (bytes : List ℕ) → Zeros 270 bytes → Good (base 0) (cells (base 0) bytes)
+zeros-good bytes z = only-zero (base 0) refl _ .1 (record { cell = λ s t m l b. z _ (cell-lt (base 0) s t m l b) })
 
 -- A record that is the same as one that a call may hand out is one, too.
 near-same : (way : Mending) (sh : Shape) (code : ℕ) (f : TrackFlags) (image : List ℕ) (x y : Cells) → Same sh x y → near-by way sh code f image x → near-by way sh code f image y
@@ -52,7 +55,7 @@ no-blocks = record {
   encoded = λ payload before r after c z. zeros after (point-2 0 .equations payload before r after c z);
   was-read = λ image before r after c.
       let stays = point-1 (read 0 image before) r after c .later in (
-        λ z. zeros image (point-2 0 .no-other image before r after c z),
+        λ u. (λ z. zeros image (point-2 0 .no-other image before r after c z), λ z. point-2 0 .is-read image before r after c u (zeros-good image z)),
         ext-getD 0 after before (stays .lengths) (λ i h. stays .later i (omega arith)),
       );
   mended = λ way flags image before r after c z. zeros after (point-3 way 0 flags image before r after c (met-none r z) .held z .0);

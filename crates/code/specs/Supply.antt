@@ -263,9 +263,10 @@ pub record NoBlocks : Type 0 where
   pub good : (x : Cells) → Good (base 0) x ↔ Same (base 0) x blank
   -- "Number 1 is now given above 256 only" — by each of the calls.
   pub number-1 : (input : Input) (r : Result) (after : List ℕ) → Right input r after → (r .answer ≡ 1) ↔ (256 < block-count input)
-  -- So the encoder writes zeros, and the reader reads zeros alone and writes nothing;
+  -- So the encoder writes zeros, and the reader reads zeros, these alone, and writes nothing;
   pub encoded : (payload before : List ℕ) (r : Result) (after : List ℕ) → Encoded 0 payload before r after → r .answer ≡ 0 → Zeros 270 after
-  pub was-read : (image before : List ℕ) (r : Result) (after : List ℕ) → WasRead 0 image before r after → (r .answer ≡ 0 → Zeros 270 image) × (after ≡ before)
+  pub was-read : (image before : List ℕ) (r : Result) (after : List ℕ) → WasRead 0 image before r after →
+      (MetNone (1 ∷ 2 ∷ 3 ∷ []) r → (r .answer ≡ 0) ↔ Zeros 270 image) × (after ≡ before)
   -- repair and tracing write zeros, exactly where the all-zero record is one that they may hand out.
   pub mended : (way : Mending) (flags : ℕ) (image before : List ℕ) (r : Result) (after : List ℕ) → Right (mend way 0 flags image before) r after →
       r .answer ≡ 0 → Zeros 270 after
