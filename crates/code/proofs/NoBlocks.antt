@@ -1,7 +1,7 @@
 -- Records of no blocks (document 02, note 3): all cells are in the tail, so the all-zero record is the only good one.
 use mathlib.Core.Path.{_≡_, refl, _∙_}
 use mathlib.Core.Logic.{_↔_}
-use mathlib.Core.List.{List, [], _∷_}
+use mathlib.Core.List.{List, []}
 use Prim.Native.Nat.{ℕ, _*_}
 use native.Mathlib.Omega.{arith}
 use lib.ListN.{getD, take, drop}
@@ -9,12 +9,12 @@ use lib.Seq.{ext-getD}
 use Rattle.code.specs.Record.{Shape, base, Cells, Good, Same, blank}
 use Rattle.code.specs.Image.{cells}
 use Rattle.code.specs.Flags.{TrackFlags}
-use Rattle.code.specs.Calls.{Result, view-checks}
-use Rattle.code.specs.Supply.{MetNone, Mending, repair, trace, read, near-by, Zeros, NoBlocks}
+use Rattle.code.specs.Calls.{view-checks}
+use Rattle.code.specs.Supply.{Mending, repair, trace, read, near-by, Zeros, NoBlocks}
 use Rattle.code.proofs.Linear.{same-sym, good-blank, good-same}
 use Rattle.code.proofs.Numbers.{first-rest}
 use Rattle.code.proofs.Places.{cell-lt, each-cell}
-use Rattle.code.proofs.Supply.{point-1, point-2, point-3, number-1}
+use Rattle.code.proofs.Supply.{point-1, number-1, point-2, met-none, point-3}
 use Rattle.code.proofs.Unique.{unique-data}
 
 -- Whatever the data tracks and the closing: there is no data cell in which two good records could differ.
@@ -39,9 +39,6 @@ near-same trace sh code f image x y same n = record {
   allowed = n .allowed;
   agree = record { cell = λ s t m l b e. n .agree .cell s t m l b e ∙ same .cell s t m l b };
 }
-
-met-none : (r : Result) → r .answer ≡ 0 → MetNone (1 ∷ 2 ∷ 3 ∷ 4 ∷ 5 ∷ []) r
-met-none r z = rw z (omega arith)
 
 pub no-blocks : NoBlocks
 no-blocks = record {

@@ -165,6 +165,10 @@ point-2 n = round-trip (base n) read-values (omega arith) n (encode-checks (base
 
 -- ## Point 3
 
+-- A call that answers 0 met none of numbers 1 to 5.
+pub met-none : (r : Result) → r .answer ≡ 0 → MetNone (1 ∷ 2 ∷ 3 ∷ 4 ∷ 5 ∷ []) r
+met-none r z = rw z (omega arith)
+
 pub point-3 : (way : Mending) (n flags : ℕ) (image before : List ℕ) (r : Result) (after : List ℕ) → Right (mend way n flags image before) r after →
     MetNone (1 ∷ 2 ∷ 3 ∷ 4 ∷ 5 ∷ []) r → MendPoint3 way n flags image r after
 point-3 way n flags image before r after c u =
