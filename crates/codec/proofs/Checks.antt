@@ -1,37 +1,95 @@
--- The check tracks of a record.
-use mathlib.Core.Path.{_≡_, _∙_}
-use mathlib.Core.Logic.{_≢_}
+-- The check tracks of a set.
+use mathlib.Core.Path.{_≡_, refl, _∙_}
+use mathlib.Core.Logic.{_≢_, by-cases}
 use mathlib.Core.List.{List}
-use Prim.Native.Nat.{ℕ, suc, _+_, _<_, _≤_}
+use Prim.Native.Nat.{ℕ, zero, suc, _+_, _*_, _%_, _<_, _≤_}
+use native.Mathlib.Decide.{ℕ-discrete}
+use native.Mathlib.Numerals.{add-one}
 use native.Mathlib.Omega.{arith}
-use Rattle.code.specs.Record.{TrackSet, A, B, Shape, data-tracks, track-length}
-use Rattle.code.specs.Image.{track-number}
-use Rattle.syndrome.specs.Syndrome.{row-of}
-use Rattle.track.specs.Track.{row}
-use Rattle.codec.specs.Steps.{RowCopied, ChecksPut}
+use lib.ListN.{length, getD}
+use Rattle.code.specs.Record.{TrackSet, A, B, Shape, data-tracks, tracks, track-length, back, sum, vertical}
+use Rattle.code.specs.Image.{track-number, image-size, cells}
+use Rattle.code.proofs.Places.{each-cell}
+use Rattle.code.proofs.Sums.{sum-same}
+use Rattle.track.specs.Track.{Bits, Added}
+use Rattle.track.proofs.Cells.{every}
+use Rattle.track.proofs.Rows.{part, part-row}
+use Rattle.syndrome.specs.Syndrome.{Image}
+use Rattle.codec.specs.Steps.{TrackPut, DataAdded, ChecksPut}
 
--- Four rows are copied, one after the other.
-module _ (sh : Shape) (syn o p q r n : List ℕ)
-    (a : RowCopied (track-length sh) (track-number sh A 0) 0 syn o p)
-    (b : RowCopied (track-length sh) (track-number sh A (suc (sh .t1))) 2 syn p q)
-    (c : RowCopied (track-length sh) (track-number sh B 0) 1 syn q r)
-    (d : RowCopied (track-length sh) (track-number sh B (suc (sh .t2))) 3 syn r n) where
-  -- A row that is none of them stays.
-  stays : (g m : ℕ) → g ≢ 0 → g ≢ suc (sh .t1) → g ≢ track-number sh B 0 → g ≢ track-number sh B (suc (sh .t2)) → m < track-length sh → row (track-length sh) n g m ≡ row (track-length sh) o g m
-  stays g m u v w x h = d .there g m x h ∙ c .there g m w h ∙ b .there g m v h ∙ a .there g m u h
+-- A list is an image of bits if it has an image's length and its cells are bits.
+pub bits-image : (sh : Shape) (xs : List ℕ) → length xs ≡ image-size sh → ((s : TrackSet) (t m : ℕ) → t < tracks sh s → m < track-length sh → cells sh xs s t m < 2) → Image sh xs
+bits-image sh xs size bit = record { size = size; bits = every (λ v. v < 2) xs (omega arith) (λ i h. each-cell sh (λ j. getD xs j 0 < 2) bit i (omega arith)) }
 
-  -- The two sets' check tracks are those rows.
-  pub checks-put : ChecksPut sh syn o n
-  checks-put = record { diagonals = first; verticals = last; others = rest }
-    where
-      first : (s : TrackSet) (m : ℕ) → m < track-length sh → row (track-length sh) n (track-number sh s 0) m ≡ row (track-length sh) syn (row-of s) m
-      first A m h = d .there 0 m (omega arith) h ∙ c .there 0 m (omega arith) h ∙ b .there 0 m (omega arith) h ∙ a .here m h
-      first B m h = d .there _ m (omega arith) h ∙ c .here m h
+-- An image of bits stays one where a stretch of bits becomes one of its tracks.
+pub put-image : (sh : Shape) (g : ℕ) (stretch before after : List ℕ) → Image sh before → Bits stretch → TrackPut (track-length sh) g stretch before after → Image sh after
+put-image sh g stretch before after i b p = bits-image sh after (p .size ∙ i .size) (λ s t m h k. by-cases (ℕ-discrete (track-number sh s t) g)
+    (λ e. rw (e, p .here m k) (b .bit m))
+    (λ d. rw (p .there _ m d k) (i .bits _)))
 
-      last : (s : TrackSet) (m : ℕ) → m < track-length sh → row (track-length sh) n (track-number sh s (suc (data-tracks sh s))) m ≡ row (track-length sh) syn (2 + row-of s) m
-      last A m h = d .there (suc (sh .t1)) m (omega arith) h ∙ c .there (suc (sh .t1)) m (omega arith) h ∙ b .here m h
-      last B m h = d .here m h
+-- ## Adding the data tracks
 
-      rest : (s : TrackSet) (t m : ℕ) → 1 ≤ t → t ≤ data-tracks sh s → m < track-length sh → row (track-length sh) n (track-number sh s t) m ≡ row (track-length sh) o (track-number sh s t) m
-      rest A t m i j h = stays t m (omega arith) (omega arith) (omega arith) (omega arith) h
-      rest B t m i j h = stays (track-number sh B t) m (omega arith) (omega arith) (omega arith) (omega arith) h
+-- At first none is added.
+pub added-none : (sh : Shape) (s : TrackSet) (image before : List ℕ) → Bits before → DataAdded sh s 0 image before before
+unfolding sum
+added-none sh s image before b = record { size = refl; bits = b; summed = λ m h. omega (arith, b .bit m) }
+
+-- The next one is added.
+pub added-more : (sh : Shape) (s : TrackSet) (n g : ℕ) (image before now after : List ℕ) → length before ≡ track-length sh →
+    g ≡ track-number sh s (n + 1) → g * track-length sh + track-length sh ≤ length image → DataAdded sh s n image before now →
+    Added now (part (track-length sh) image g) 0 after → DataAdded sh s (n + 1) image before after
+unfolding sum back
+added-more sh s n g image before now after size e room d a = rw (add-one n) (record {
+  size = a .size ∙ d .size;
+  bits = record { bit = a .bits };
+  summed = λ m h. omega (arith, a .cells m (omega (arith, d .size)), d .summed m h, cell m h);
+})
+  where
+    cell : (m : ℕ) → m < track-length sh → getD (part (track-length sh) image g) m 0 ≡ cells sh image s (suc n) m
+    cell m h = part-row (track-length sh) image g room m h ∙ rw (e, add-one n)
+
+-- ## Writing the check tracks
+
+-- A sum without its first term.
+sum-first : (n : ℕ) (f : ℕ → ℕ) → sum (suc n) f ≡ f 0 + sum n (λ t. f (suc t))
+unfolding sum
+sum-first zero f = omega arith
+sum-first (suc n) f = omega (arith, sum-first n f)
+
+-- The tracks of a set have numbers of their own.
+other-number : (sh : Shape) (s : TrackSet) (t u : ℕ) → t ≢ u → track-number sh s t ≢ track-number sh s u
+other-number sh A t u d e = d e
+other-number sh B t u d e = d (omega arith)
+
+-- Track 0 is put, the data tracks are added to it, and the sum is put.
+module _ (sh : Shape) (s : TrackSet) (first sums before mid after : List ℕ) (i : Image sh before) (b : Bits first)
+    (p : TrackPut (track-length sh) (track-number sh s 0) first before mid) (d : DataAdded sh s (data-tracks sh s) mid first sums)
+    (q : TrackPut (track-length sh) (track-number sh s (suc (data-tracks sh s))) sums mid after) where
+  abbrev last : ℕ
+  last = suc (data-tracks sh s)
+
+  -- All tracks but the last stay while the sum is put.
+  stays : (t m : ℕ) → t < last → m < track-length sh → cells sh after s t m ≡ cells sh mid s t m
+  stays t m h = q .there _ m (other-number sh s t last (omega arith))
+
+  put-first : (m : ℕ) → m < track-length sh → cells sh after s 0 m ≡ getD first m 0
+  put-first m h = stays 0 m (omega arith) h ∙ p .here m h
+
+  put-even : (m : ℕ) → m < track-length sh → vertical sh (cells sh after) s m % 2 ≡ 0
+  unfolding vertical sum
+  put-even m h = omega (
+    arith,
+    sum-first (data-tracks sh s) (λ t. cells sh after s t m),
+    put-first m h,
+    sum-same (data-tracks sh s) (λ c. cells sh after s (suc c) m) (λ c. cells sh mid s (suc c) m) (λ c k. stays (suc c) m (omega arith) h),
+    d .summed m h,
+    q .here m h,
+  )
+
+  pub checks-put : ChecksPut sh s first before after
+  checks-put = record {
+    image = put-image sh _ sums mid after (put-image sh _ first before mid i b p) (d .bits) q;
+    first = put-first;
+    even = put-even;
+    others = λ g m u v h. q .there g m v h ∙ p .there g m u h;
+  }

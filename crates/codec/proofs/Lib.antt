@@ -3,6 +3,5 @@ pub mod Rows
 pub mod Filled
 pub mod Gathered
 pub mod Checks
-pub mod Closing
 pub mod Making
 pub mod Answering

@@ -1,4 +1,4 @@
--- The track of a column, and a row that is copied.
+-- The track of a column, and a track that is written.
 use mathlib.Core.Path.{_≡_, _∙_}
 use mathlib.Core.List.{List}
 use Prim.Native.Nat.{ℕ, _+_, _*_, _-_, _<_, _≤_}
@@ -9,8 +9,8 @@ use Rattle.code.specs.Record.{Shape, track-length}
 use Rattle.code.specs.Image.{image-size}
 use Rattle.code.specs.Payload.{payload-size}
 use Rattle.track.specs.Track.{Bits, Copied}
-use Rattle.track.proofs.Rows.{part, part-length, part-row, part-bits, new-length, new-here, new-there}
-use Rattle.codec.specs.Steps.{Column, DataNumber, RowCopied}
+use Rattle.track.proofs.Rows.{part, part-length, part-bits, new-length, new-here, new-there}
+use Rattle.codec.specs.Steps.{Column, DataNumber, TrackPut}
 
 -- The track of a column.
 module _ (sh : Shape) (p : ℕ) (image : List ℕ) (r : ℕ) (number : DataNumber sh p r) (size : length image ≡ image-size sh) where
@@ -25,11 +25,11 @@ module _ (sh : Shape) (p : ℕ) (image : List ℕ) (r : ℕ) (number : DataNumbe
   pub next-bits : Bits image → Bits (part (track-length sh) image r)
   next-bits = part-bits (track-length sh) image r number-room
 
--- A row that is copied.
-pub copied-row : (l to from : ℕ) (source before ys : List ℕ) (there : to * l + l ≤ length before) → from * l + l ≤ length source →
-    Copied (part l source from) (part l before to) ys → RowCopied l to from source before (putMid (to * l) (to * l + l - to * l) before ys)
-copied-row l to from source before ys there here c = record {
-  size = new-length l before to there ys (c .size);
-  here = λ m h. new-here l before to there ys (c .size) m h ∙ c .copy m (omega (arith, part-length l source from here)) ∙ part-row l source from here m h;
-  there = new-there l before to there ys (c .size);
+-- A stretch that is written to a track.
+pub track-put : (g : ℕ) (stretch before ys : List ℕ) → g * length stretch + length stretch ≤ length before → Copied stretch (part (length stretch) before g) ys →
+    TrackPut (length stretch) g stretch before (putMid (g * length stretch) (g * length stretch + length stretch - g * length stretch) before ys)
+track-put g stretch before ys room c = record {
+  size = new-length _ before g room ys (c .size);
+  here = λ m h. new-here _ before g room ys (c .size) m h ∙ c .copy m h;
+  there = new-there _ before g room ys (c .size);
 }

@@ -5,15 +5,14 @@ use mathlib.Core.List.{List}
 use Prim.Native.Nat.{ℕ, suc, _+_, _*_, _%_, _<_, _≤_}
 use lib.Dec.{ltb}
 use lib.ListN.{length, getD}
-use Rattle.code.specs.Record.{TrackSet, other, Shape, data-tracks, track-length, back, Good}
-use Rattle.code.specs.Image.{image-size, cells}
+use Rattle.code.specs.Record.{TrackSet, Shape, data-tracks, track-length, sum, vertical, Good}
+use Rattle.code.specs.Image.{track-number, image-size, cells}
 use Rattle.code.specs.Payload.{digits, payload-size, Carries}
 use Rattle.code.specs.Reach.{pick}
 use Rattle.code.specs.Sizes.{shape, Small}
 use Rattle.code.specs.declared.Sizes.{Sizes}
-use Rattle.track.specs.Track.{row}
-use Rattle.syndrome.specs.Syndrome.{row-of}
-use Rattle.syndrome.specs.Steps.{Rows}
+use Rattle.track.specs.Track.{row, Bits}
+use Rattle.syndrome.specs.Syndrome.{Image}
 
 -- ## Data tracks and columns: column p of a payload is byte p of each block of w bytes
 
@@ -67,31 +66,25 @@ pub record Reading (sh : Shape) (n p : ℕ) (image before after : List ℕ) : Ty
 
 -- ## Check tracks
 
--- Each row of diagonals has the other one added, `lag` positions back, and the verticals stay.
-pub record DiagonalsClosed (l lag : ℕ) (before after : List ℕ) : Type 0 where
-  pub rows : Rows l after
-  pub closed : (s : TrackSet) (m : ℕ) → m < l →
-      row l after (row-of s) m ≡ (row l before (row-of s) m + back (row l after (row-of (other s))) m lag) % 2
-  pub rest : (i : ℕ) → 2 * l ≤ i → getD after i 0 ≡ getD before i 0
-
--- The rows of verticals have the diagonals of their set added, which stay.
-pub record VerticalsClosed (l : ℕ) (before after : List ℕ) : Type 0 where
-  pub rows : Rows l after
-  pub closed : (i : ℕ) → i < 2 * l → getD after (2 * l + i) 0 ≡ (getD before (2 * l + i) 0 + getD before i 0) % 2
-  pub rest : (i : ℕ) → i < 2 * l → getD after i 0 ≡ getD before i 0
-
--- One row of a list is that of another, and the other rows stay.
-pub record RowCopied (l to from : ℕ) (source before after : List ℕ) : Type 0 where
+-- A track of an image becomes a given stretch, and the other tracks stay.
+pub record TrackPut (l g : ℕ) (stretch before after : List ℕ) : Type 0 where
   pub size : length after ≡ length before
-  pub here : (m : ℕ) → m < l → row l after to m ≡ row l source from m
-  pub there : (r m : ℕ) → r ≢ to → m < l → row l after r m ≡ row l before r m
+  pub here : (m : ℕ) → m < l → row l after g m ≡ getD stretch m 0
+  pub there : (r m : ℕ) → r ≢ g → m < l → row l after r m ≡ row l before r m
 
--- The check tracks of both sets are rows of `syn`, and the data tracks stay.
-pub record ChecksPut (sh : Shape) (syn before after : List ℕ) : Type 0 where
-  pub diagonals : (s : TrackSet) (m : ℕ) → m < track-length sh → cells sh after s 0 m ≡ row (track-length sh) syn (row-of s) m
-  pub verticals : (s : TrackSet) (m : ℕ) → m < track-length sh →
-      cells sh after s (suc (data-tracks sh s)) m ≡ row (track-length sh) syn (2 + row-of s) m
-  pub others : (s : TrackSet) (t m : ℕ) → 1 ≤ t → t ≤ data-tracks sh s → m < track-length sh → cells sh after s t m ≡ cells sh before s t m
+-- The first n data tracks of a set are added to a stretch modulo 2.
+pub record DataAdded (sh : Shape) (s : TrackSet) (n : ℕ) (image before after : List ℕ) : Type 0 where
+  pub size : length after ≡ length before
+  pub bits : Bits after
+  pub summed : (m : ℕ) → m < track-length sh → getD after m 0 ≡ (getD before m 0 + sum n (λ c. cells sh image s (suc c) m)) % 2
+
+-- Track 0 of a set becomes a given stretch, the vertical track makes the set's verticals even, and all other tracks stay.
+pub record ChecksPut (sh : Shape) (s : TrackSet) (stretch before after : List ℕ) : Type 0 where
+  pub image : Image sh after
+  pub first : (m : ℕ) → m < track-length sh → cells sh after s 0 m ≡ getD stretch m 0
+  pub even : (m : ℕ) → m < track-length sh → vertical sh (cells sh after) s m % 2 ≡ 0
+  pub others : (g m : ℕ) → g ≢ track-number sh s 0 → g ≢ track-number sh s (suc (data-tracks sh s)) → m < track-length sh →
+      row (track-length sh) after g m ≡ row (track-length sh) before g m
 
 -- An image is the good record of a payload.
 pub record GoodRecord (sh : Shape) (n : ℕ) (payload image : List ℕ) : Type 0 where

@@ -5,15 +5,16 @@ use code::plain_answer;
 ghost use mathlib.Core.Path.{_≡_};
 ghost use Prim.Native.Nat.{ℕ, _+_, _*_, _<_, _≤_};
 ghost use lib.ListN.{length, getD};
-ghost use Rattle.code.specs.Record.{track-length};
+ghost use Rattle.code.specs.Record.{data-tracks, track-length};
 ghost use Rattle.code.specs.Image.{image-size, cells};
 ghost use Rattle.code.specs.Sizes.{shape, Small};
 ghost use Rattle.code.specs.Contracts.{Encoded, WasRead};
 ghost use Rattle.code.specs.Answers.{result-of};
 ghost use Rattle.track.specs.Track.{Bits};
 ghost use Rattle.checks.specs.Lost.{LostTold};
-ghost use Rattle.syndrome.specs.Syndrome.{Tested};
-ghost use Rattle.syndrome.specs.Steps.{Rows, cells-of};
+ghost use Rattle.registers.specs.Steps.{Sevens};
+ghost use Rattle.syndrome.specs.Syndrome.{set-of, Image, Tested};
+ghost use Rattle.syndrome.specs.Steps.{cells-of};
 ghost use Rattle.codec.specs.Steps.{
   Sized,
   Column,
@@ -22,9 +23,8 @@ ghost use Rattle.codec.specs.Steps.{
   Filling,
   ColumnRead,
   Reading,
-  DiagonalsClosed,
-  VerticalsClosed,
-  RowCopied,
+  TrackPut,
+  DataAdded,
   ChecksPut,
   GoodRecord,
 };
@@ -70,80 +70,67 @@ fn write_data(out: &mut [u8], z: Sizes, payload: &[u8], blocks: usize)
     }
 }
 
-// Makes the diagonals of a record without check tracks those of its tracks 0: each adds the other's, a lag before.
-fn close_diagonals(syn: &mut [u8], l: usize, lag: usize)
-    requires { ⌜ Rows l (now syn) ⌝ }
-    requires { ⌜ 0 < lag ⌝ }
-    requires { ⌜ lag ≤ l ⌝ }
-    ensures { λ _. ⌜ DiagonalsClosed l lag (now (syn .entry)) (now (syn .exit)) ⌝ }
+// Writes a stretch to a track of an image.
+fn put_track(out: &mut [u8], g: usize, stretch: &[u8])
+    requires { ⌜ g * length (now stretch) + length (now stretch) ≤ length (now out) ⌝ }
+    ensures { λ _. ⌜ TrackPut (length (now (stretch .entry))) g (now (stretch .entry)) (now (out .entry)) (now (out .exit)) ⌝ }
 {
-    let mut m = lag;
-    while m < l {
-        let earlier = m - lag;
-        let a = syn[m] ^ syn[l + earlier];
-        let b = syn[l + m] ^ syn[earlier];
-        syn[m] = a;
-        syn[l + m] = b;
-        m += 1;
-    }
-}
-
-// Adds the diagonals to the verticals of the same set.
-fn close_verticals(syn: &mut [u8], l: usize)
-    requires { ⌜ Rows l (now syn) ⌝ }
-    ensures { λ _. ⌜ VerticalsClosed l (now (syn .entry)) (now (syn .exit)) ⌝ }
-{
-    let n = 2 * l;
-    let mut i = 0;
-    while i < n {
-        syn[n + i] = syn[n + i] ^ syn[i];
-        i += 1;
-    }
-}
-
-// Copies a row of one list to a row of another.
-fn copy_row(out: &mut [u8], to: usize, source: &[u8], from: usize, l: usize)
-    requires { ⌜ to * l + l ≤ length (now out) ⌝ }
-    requires { ⌜ from * l + l ≤ length (now source) ⌝ }
-    ensures { λ _. ⌜ RowCopied l to from (now (source .entry)) (now (out .entry)) (now (out .exit)) ⌝ }
-{
-    let start = to * l;
+    let l = stretch.len();
+    let start = g * l;
     let end = start + l;
-    let first = from * l;
-    let last = first + l;
-    track::copy_into(&mut out[start..end], &source[first..last]);
+    track::copy_into(&mut out[start..end], stretch);
 }
 
-// Writes the check tracks of both sets.
-fn write_checks(out: &mut [u8], syn: &[u8], z: Sizes)
+// Adds the data tracks of a set to a stretch.
+fn add_data(sums: &mut [u8], image: &[u8], z: Sizes, s: usize)
     requires { ⌜ Small z ⌝ }
-    requires { ⌜ length (now out) ≡ image-size (shape z) ⌝ }
-    requires { ⌜ length (now syn) ≡ 4 * track-length (shape z) ⌝ }
-    ensures { λ _. ⌜ ChecksPut (shape z) (now (syn .entry)) (now (out .entry)) (now (out .exit)) ⌝ }
+    requires { ⌜ s < 2 ⌝ }
+    requires { ⌜ Image (shape z) (now image) ⌝ }
+    requires { ⌜ length (now sums) ≡ track-length (shape z) ⌝ }
+    requires { ⌜ Bits (now sums) ⌝ }
+    ensures { λ _. ⌜ DataAdded (shape z) (set-of s) (data-tracks (shape z) (set-of s)) (now (image .entry)) (now (sums .entry)) (now (sums .exit)) ⌝ }
 {
-    let t1 = z.t1;
-    let t2 = z.t2;
-    let l = z.positions + (t1 + t2 + 1);
-    copy_row(out, 0, syn, 0, l);
-    copy_row(out, t1 + 1, syn, 2, l);
-    copy_row(out, t1 + 2, syn, 1, l);
-    copy_row(out, t1 + t2 + 3, syn, 3, l);
+    let l = z.positions + (z.t1 + z.t2 + 1);
+    let count = syndrome::data_tracks(z, s);
+    let mut c = 0;
+    while c < count {
+        let start = syndrome::track_number(z, s, c + 1) * l;
+        let end = start + l;
+        track::add_track(sums, &image[start..end], 0);
+        c += 1;
+    }
 }
 
-// Writes the good record of a payload.
+// Writes the check tracks of a set. Track 0 is at hand, and the vertical track is the sum of it and of the data tracks.
+fn write_checks(out: &mut [u8], first: &mut [u8], z: Sizes, s: usize)
+    requires { ⌜ Small z ⌝ }
+    requires { ⌜ s < 2 ⌝ }
+    requires { ⌜ Image (shape z) (now out) ⌝ }
+    requires { ⌜ length (now first) ≡ track-length (shape z) ⌝ }
+    requires { ⌜ Bits (now first) ⌝ }
+    ensures { λ _. ⌜ ChecksPut (shape z) (set-of s) (now (first .entry)) (now (out .entry)) (now (out .exit)) ⌝ }
+{
+    let count = syndrome::data_tracks(z, s);
+    put_track(out, syndrome::track_number(z, s, 0), first);
+    add_data(first, out, z, s);
+    put_track(out, syndrome::track_number(z, s, count + 1), first);
+}
+
+// Writes the good record of a payload, of seven data tracks a set.
 fn write_record(out: &mut [u8], z: Sizes, payload: &[u8], blocks: usize)
     requires { ⌜ Sized z blocks (now out) (now payload) ⌝ }
+    requires { ⌜ Sevens (shape z) blocks ⌝ }
     ensures { λ _. ⌜ GoodRecord (shape z) blocks (now (payload .entry)) (now (out .exit)) ⌝ }
 {
-    let lag = z.t1 + z.t2 + 1;
-    let l = z.positions + lag;
+    let l = 8 * blocks + 15;
     write_data(out, z, payload, blocks);
-    let mut room = [0u8; 8252];
-    let syn = &mut room[..4 * l];
-    syndrome::syndromes(out, z, syn);
-    close_diagonals(syn, l, lag);
-    close_verticals(syn, l);
-    write_checks(out, syn, z);
+    let mut room_a = [0u8; 2063];
+    let mut room_b = [0u8; 2063];
+    let a = &mut room_a[..l];
+    let b = &mut room_b[..l];
+    registers::carry(a, b, payload, blocks);
+    write_checks(out, a, z, 0);
+    write_checks(out, b, z, 1);
 }
 
 // Encoder: the payload's good record goes to the start of the output.

@@ -54,8 +54,10 @@ slice-aggregate-write-record c = sym (length-take-le _ _ (right (c .before) .fit
 
 write-record-requires : tie.Need-write-record-requires
 write-record-requires c κs =
-    let p = right (c .before) in
-    record { small = search needs; positions = refl; whole = length-take-le _ _ (p .fits); room = search needs }
+    let p = right (c .before) in (
+      record { small = search needs; positions = refl; whole = length-take-le _ _ (p .fits); room = search needs },
+      record { t1-seven = refl; t2-seven = refl; blocks = refl },
+    )
 
 plain-answer-requires : tie.Need-plain-answer-requires
 plain-answer-requires c κs = search needs

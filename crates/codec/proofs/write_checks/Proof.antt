@@ -1,73 +1,80 @@
--- `write_checks` meets its contract: four rows are copied.
-use mathlib.Core.Path.{_≡_}
-use Prim.Native.Nat.{suc, _+_}
+-- `write_checks` meets its contract: track 0 is put, the data tracks are added to it, and the sum is put.
+use mathlib.Core.Path.{_≡_, ap, _∙_}
+use Prim.Native.Nat.{ℕ, suc}
 use native.Mathlib.Omega.{arith}
 use borrow.Author.Needs.{needs}
-use Rattle.codec.proofs.Checks.{checks-put}
+use Rattle.code.specs.Record.{data-tracks}
+use Rattle.code.specs.Image.{track-number}
+use Rattle.code.specs.Sizes.{shape}
+use Rattle.syndrome.specs.Syndrome.{set-of}
+use Rattle.codec.proofs.Checks.{put-image, checks-put}
 use Rattle.codec.proofs.write_checks.Statement.{statement}
 use Rattle.codec.proofs.write_checks.Tie as tie
 
-add-l : tie.Need-add-l
-add-l c = search needs
+data-tracks-requires : tie.Need-data-tracks-requires
+data-tracks-requires c κs = search needs
 
-add-l-2 : tie.Need-add-l-2
-add-l-2 c = search needs
+track-number-requires : tie.Need-track-number-requires
+track-number-requires c κs = search needs
 
-add-l-3 : tie.Need-add-l-3
-add-l-3 c = search needs
+put-track-requires : tie.Need-put-track-requires
+put-track-requires c κs =
+    let s = c .before .before .before .before .before .before in
+    rw (s .pre .1 .1 .1 .0) (search needs)
 
-copy-row-requires : tie.Need-copy-row-requires
-copy-row-requires c κs = search needs
+add-data-requires : tie.Need-add-data-requires
+add-data-requires c κs =
+    let p = c .before .before .before .before in
+    let s = p .before .before .before .before .before .before .before in
+    let size = s .pre .1 .1 .1 .0 in
+    (s .pre .0, (s .pre .1 .0, (put-image _ _ _ _ _ (s .pre .1 .1 .0) (s .pre .1 .1 .1 .1) (rw size at (p .put-track .ensures)), (size, s .pre .1 .1 .1 .1))))
 
-add-copy-row : tie.Need-add-copy-row
-add-copy-row c = search needs
+add-track-number : tie.Need-add-track-number
+add-track-number c = search needs
 
-copy-row-requires-2 : tie.Need-copy-row-requires-2
-copy-row-requires-2 c κs = search needs
+track-number-requires-2 : tie.Need-track-number-requires-2
+track-number-requires-2 c κs = search needs
 
-add-copy-row-2 : tie.Need-add-copy-row-2
-add-copy-row-2 c = search needs
-
-copy-row-requires-3 : tie.Need-copy-row-requires-3
-copy-row-requires-3 c κs = search needs
-
-add-copy-row-3 : tie.Need-add-copy-row-3
-add-copy-row-3 c = search needs
-
-add-copy-row-4 : tie.Need-add-copy-row-4
-add-copy-row-4 c = search needs
-
-copy-row-requires-4 : tie.Need-copy-row-requires-4
-copy-row-requires-4 c κs = search needs
+put-track-requires-2 : tie.Need-put-track-requires-2
+put-track-requires-2 c κs =
+    let d = c .before .before .before .before .before in
+    let p = d .before .before .before .before .before in
+    let s = p .before .before .before .before .before .before .before in
+    rw (d .add-data .ensures .size ∙ s .pre .1 .1 .1 .0) (search needs)
 
 same-length : tie.Need-same-length
 same-length c = search needs
 
+same-length-2 : tie.Need-same-length-2
+same-length-2 c = search needs
+
 returns : tie.Need-returns
 returns c =
-    let d = c .before .before .before .before .before .before in
-    let b = d .before .before .before .before in
-    let a = b .before .before .before .before in
-    let z = a .before .before .before .before .before .args .z in
-    let last-a : z .t1 + 1 ≡ suc (z .t1) = omega arith in
-    let first-b : z .t1 + 2 ≡ suc (suc (z .t1)) + 0 = omega arith in
-    let last-b : z .t1 + z .t2 + 3 ≡ suc (suc (z .t1)) + suc (z .t2) = omega arith in
-    checks-put _ _ _ _ _ _ _ (a .copy-row .ensures) (rw last-a at (b .copy-row2 .ensures)) (rw first-b at (d .copy-row3 .ensures)) (rw last-b at (c .before .before .copy-row4 .ensures))
+    let q = c .before .before in
+    let n = q .before .before in
+    let d = n .before .before .before .before in
+    let p = d .before .before .before .before .before in
+    let s = p .before .before .before .before .before .before .before in
+    let size = s .pre .1 .1 .1 .0 in
+    let track : ℕ → ℕ = track-number (shape (s .args .z)) (set-of (s .args .s)) in
+    let last : n .track-number2 .result ≡ track (suc (data-tracks (shape (s .args .z)) (set-of (s .args .s)))) =
+    n .track-number2 .ensures .is ∙ ap track (omega (arith, p .before .before .before .before .data-tracks .ensures .is)) in
+    checks-put _ _ _ _ _ _ _ (s .pre .1 .1 .0) (s .pre .1 .1 .1 .1)
+    (rw (size, p .before .before .track-number .ensures .is) at (p .put-track .ensures))
+    (d .add-data .ensures)
+    (rw (d .add-data .ensures .size ∙ size, last) at (q .put-track2 .ensures))
 
 pub write-checks-spec : {M : Type 1} → statement M
 write-checks-spec =
     tie.close
     (tie.spec
-    add-l
-    add-l-2
-    add-l-3
-    copy-row-requires
-    add-copy-row
-    copy-row-requires-2
-    add-copy-row-2
-    copy-row-requires-3
-    add-copy-row-3
-    add-copy-row-4
-    copy-row-requires-4
+    data-tracks-requires
+    track-number-requires
+    put-track-requires
+    add-data-requires
+    add-track-number
+    track-number-requires-2
+    put-track-requires-2
     same-length
+    same-length-2
     returns)

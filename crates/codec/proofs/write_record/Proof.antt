@@ -1,16 +1,25 @@
--- `write_record` meets its contract: the data tracks, their syndromes, the check tracks.
-use borrow.Author.Needs.{needs}
-use mathlib.Core.Path.{sym}
+-- `write_record` meets its contract: the data tracks, tracks 0, the check tracks of A and of B.
+use mathlib.Core.Path.{_≡_, sym, _∙_}
+use Prim.Native.Nat.{ℕ, _+_, _*_}
+use native.Mathlib.Omega.{arith}
+use lib.ListN.{length, take, replicate}
+use Rattle.code.specs.Record.{A, B, track-length}
+use Rattle.code.specs.Sizes.{shape}
 use Rattle.track.proofs.Rows.{front}
 use Rattle.codec.proofs.Making.{filled-image, good-record}
+use borrow.Author.Needs.{needs}
 use Rattle.codec.proofs.write_record.Statement.{statement}
 use Rattle.codec.proofs.write_record.Tie as tie
 
-add-lag : tie.Need-add-lag
-add-lag c = search needs
+-- The room for a track, and its length.
+track-room : (c : tie.Start) → length {A = ℕ} (take (8 * c .args .blocks + 15) (replicate 2063 0)) ≡ 8 * c .args .blocks + 15
+track-room c = front 2063 _ (omega (arith, c .pre .0 .positions, c .pre .0 .small .positions-small))
 
-add-lag-2 : tie.Need-add-lag-2
-add-lag-2 c = search needs
+track-size : (c : tie.Start) → 8 * c .args .blocks + 15 ≡ track-length (shape (c .args .z))
+track-size c = let v = c .pre .1 in omega (arith, v .t1-seven, v .t2-seven, v .blocks)
+
+mul-l : tie.Need-mul-l
+mul-l c = search needs
 
 add-l : tie.Need-add-l
 add-l c = search needs
@@ -18,56 +27,62 @@ add-l c = search needs
 write-data-requires : tie.Need-write-data-requires
 write-data-requires c κs = search needs
 
-mul-room : tie.Need-mul-room
-mul-room c = search needs
+array-borrow-prefix-room-a : tie.Need-array-borrow-prefix-room-a
+array-borrow-prefix-room-a c = search needs
 
-array-borrow-prefix-room : tie.Need-array-borrow-prefix-room
-array-borrow-prefix-room c = search needs
+slice-aggregate-a : tie.Need-slice-aggregate-a
+slice-aggregate-a c = sym (front 2063 _ (search needs))
 
-slice-aggregate-syn : tie.Need-slice-aggregate-syn
-slice-aggregate-syn c = sym (front 8252 _ (search needs))
+array-borrow-prefix-room-b : tie.Need-array-borrow-prefix-room-b
+array-borrow-prefix-room-b c = search needs
 
-syndromes-requires : tie.Need-syndromes-requires
-syndromes-requires c κs =
-    let s = c .before .before .before .before .before .before .before .before .before .before .before in
-    (s .pre .small, (filled-image _ _ _ _ (c .before .before .before .before .before .write-data .ensures), front 8252 _ (search needs)))
+slice-aggregate-b : tie.Need-slice-aggregate-b
+slice-aggregate-b c = sym (front 2063 _ (search needs))
 
-close-diagonals-requires : tie.Need-close-diagonals-requires
-close-diagonals-requires c κs = search needs
-
-close-verticals-requires : tie.Need-close-verticals-requires
-close-verticals-requires c κs = search needs
+carry-requires : tie.Need-carry-requires
+carry-requires c κs =
+    let s = c .before .before .before .before .before .before .before .before .before .before in
+    let v = s .pre .1 in
+    record { small = omega arith; bytes = rw (v .t1-seven, v .t2-seven) at (s .pre .0 .room); size-a = track-room s; size-b = track-room s }
 
 write-checks-requires : tie.Need-write-checks-requires
-write-checks-requires c κs = search needs
+write-checks-requires c κs =
+    let k = c .before .before .before .before .before .carry in
+    let d = c .before .before .before .before .before .before .before .before .before .before .before .before in
+    let s = d .before .before .before .before in
+    (s .pre .0 .small, (omega arith, (filled-image _ _ _ _ (d .write-data .ensures), (k .kept .0 ∙ track-room s ∙ track-size s, k .ensures .bits A))))
+
+write-checks-requires-2 : tie.Need-write-checks-requires-2
+write-checks-requires-2 c κs =
+    let k = c .before .before .before .before .before .before .before .before .before .before .carry in
+    let s = c .before .before .before .before .before .before .before .before .before .before .before .before .before .before .before .before .before .before .before .before .before in
+    (s .pre .0 .small, (omega arith, (c .before .before .before .before .write-checks .ensures .image, (k .kept .1 .0 ∙ track-room s ∙ track-size s, k .ensures .bits B))))
 
 same-length : tie.Need-same-length
 same-length c = search needs
 
 returns : tie.Need-returns
 returns c =
-    let w = c .before .before .before in
-    let v = w .before .before .before .before .before in
-    let d = v .before .before .before .before in
-    let h = d .before .before .before .before in
-    let f = h .before .before .before .before .before .before in
-    let s = f .before .before .before .before .before .before in
-    good-record _ _ _ _ (f .write-data .ensures) (s .pre .positions) _ _ _ _ (h .syndromes .ensures) (d .close-diagonals .ensures) (v .close-verticals .ensures) (w .write-checks .ensures)
+    let q = c .before .before .before in
+    let p = q .before .before .before .before .before in
+    let k = p .before .before .before .before .before .before in
+    let d = k .before .before .before .before .before .before .before in
+    let s = d .before .before .before .before in
+    good-record _ _ _ _ (d .write-data .ensures) (s .pre .1) _ _ _ _ (k .carry .ensures) (p .write-checks .ensures) (q .write-checks2 .ensures)
 
 pub write-record-spec : {M : Type 1} → statement M
 write-record-spec =
     tie.close
     (tie.spec
-    add-lag
-    add-lag-2
+    mul-l
     add-l
     write-data-requires
-    mul-room
-    array-borrow-prefix-room
-    slice-aggregate-syn
-    syndromes-requires
-    close-diagonals-requires
-    close-verticals-requires
+    array-borrow-prefix-room-a
+    slice-aggregate-a
+    array-borrow-prefix-room-b
+    slice-aggregate-b
+    carry-requires
     write-checks-requires
+    write-checks-requires-2
     same-length
     returns)
