@@ -3,8 +3,8 @@
 #include <stdbool.h>
 #include <string.h>
 
-/* Of a set: its data tracks, and all its tracks. Then the lag, all tracks of a record, and the syndromes of the longest. */
-enum { DATA = 7, TRACKS = DATA + 2, LAG = 2 * DATA + 1, ALL = 2 * TRACKS, ROOM = 4 * (8 * 256 + LAG) };
+/* Of a set: its data tracks, and all its tracks. Then the lag, all tracks of a record, and a track and the syndromes of the longest. */
+enum { DATA = 7, TRACKS = DATA + 2, LAG = 2 * DATA + 1, ALL = 2 * TRACKS, TRACK = 8 * 256 + LAG, ROOM = 4 * TRACK };
 
 /* Past every track. */
 enum { NONE = 16 };
@@ -446,45 +446,92 @@ static void write_data(uint8_t *restrict out, size_t l, const uint8_t *restrict 
     }
 }
 
-/* Makes the diagonals of a record without check tracks those of its tracks 0: each adds the other's, a lag before. */
-static void close_diagonals(uint8_t *syn, size_t l)
+/* The fifteen places of a register, or what enters them: eight in one word and seven in another, the first least significant. */
+struct places {
+    uint64_t low, high;
+};
+
+/* The registers of A and of B, or what enters them. */
+struct registers {
+    struct places a, b;
+};
+
+/* A register shifted by one place towards its head, and a cell added to each place. */
+static inline struct places shifted(struct places r, struct places cells)
 {
-    for (size_t m = LAG; m < l; m++) {
-        uint8_t a = syn[m] ^ syn[l + m - LAG];
-        uint8_t b = syn[l + m] ^ syn[m - LAG];
-        syn[m] = a;
-        syn[l + m] = b;
+    return (struct places){(r.low >> 8 | r.high << 56) ^ cells.low, r.high >> 8 ^ cells.high};
+}
+
+/* Bit k of the byte at each place. */
+static inline struct places bits_at(struct places bytes, unsigned k)
+{
+    const uint64_t ones = 0x101010101010101;
+    return (struct places){bytes.low >> k & ones, bytes.high >> k & ones};
+}
+
+/* The registers after a position: track 0 of a set is the head of its register, and enters the other's last place. */
+static inline struct registers step(struct registers r, struct registers cells)
+{
+    cells.a.high |= (r.b.low & 0xff) << 48;
+    cells.b.high |= (r.a.low & 0xff) << 48;
+    return (struct registers){shifted(r.a, cells.a), shifted(r.b, cells.b)};
+}
+
+/* The order of a register's places: tracks 1 to 7 of its own set, then 7 to 1 of the other. */
+static inline struct places ordered(const uint8_t *own, const uint8_t *across)
+{
+    uint8_t bytes[16] = {0};
+    struct places r;
+    memcpy(bytes, own, DATA);
+    for (size_t i = 0; i < DATA; i++)
+        bytes[DATA + i] = across[DATA - 1 - i];
+    memcpy(&r.low, bytes, 8);
+    memcpy(&r.high, bytes + 8, 8);
+    return r;
+}
+
+/* A position passes: the heads are its tracks 0, and its other cells are bit k of each byte. */
+static inline struct registers pass(uint8_t *a, uint8_t *b, struct registers r, struct registers bytes, unsigned k)
+{
+    *a = (uint8_t)r.a.low;
+    *b = (uint8_t)r.b.low;
+    return step(r, (struct registers){bits_at(bytes.a, k), bits_at(bytes.b, k)});
+}
+
+/* Tracks 0 of both sets for a payload: its blocks pass, and then the tail. */
+static void carry(uint8_t *restrict a, uint8_t *restrict b, const uint8_t *restrict payload, size_t blocks)
+{
+    struct registers r = {{0, 0}, {0, 0}}, none = {{0, 0}, {0, 0}};
+    for (size_t block = 0; block < blocks; block++) {
+        const uint8_t *p = payload + 2 * DATA * block;
+        struct registers bytes = {ordered(p, p + DATA), ordered(p + DATA, p)};
+        for (size_t j = 0; j < 8; j++)
+            r = pass(a + 8 * block + j, b + 8 * block + j, r, bytes, 7 - (unsigned)j);
     }
+    for (size_t m = 8 * blocks; m < 8 * blocks + LAG; m++)
+        r = pass(a + m, b + m, r, none, 0);
 }
 
-/* Adds the diagonals to the verticals of the same set. */
-static void close_verticals(uint8_t *syn, size_t l)
+/* Writes the check tracks of a set. Track 0 is at hand, and the vertical track is the sum of it and of the data tracks. */
+static void write_checks(uint8_t *restrict out, uint8_t *restrict first, size_t l, int s)
 {
-    size_t n = 2 * l;
-    for (size_t i = 0; i < n; i++)
-        syn[n + i] ^= syn[i];
-}
-
-static void write_checks(uint8_t *restrict out, const uint8_t *restrict syn, size_t l)
-{
-    memcpy(out + track_number(0, 0) * l, syn, l);
-    memcpy(out + track_number(0, DATA + 1) * l, syn + 2 * l, l);
-    memcpy(out + track_number(1, 0) * l, syn + l, l);
-    memcpy(out + track_number(1, DATA + 1) * l, syn + 3 * l, l);
+    memcpy(out + track_number(s, 0) * l, first, l);
+    for (int t = 1; t <= DATA; t++)
+        add_track(first, out + track_number(s, t) * l, l, 0);
+    memcpy(out + track_number(s, DATA + 1) * l, first, l);
 }
 
 axp_result plain_encode(uint32_t blocks, const uint8_t *restrict payload, size_t payload_len, uint8_t *restrict out, size_t out_len)
 {
-    uint8_t syn[ROOM];
+    uint8_t a[TRACK], b[TRACK];
     axp_result r = check_sizes(blocks, payload_len, AXP_PAYLOAD_SIZE(blocks), out_len, AXP_IMAGE_SIZE(blocks));
     if (r.answer)
         return r;
     size_t l = AXP_TRACK_LENGTH(blocks);
     write_data(out, l, payload, blocks);
-    syndromes(out, l, syn);
-    close_diagonals(syn, l);
-    close_verticals(syn, l);
-    write_checks(out, syn, l);
+    carry(a, b, payload, blocks);
+    write_checks(out, a, l, 0);
+    write_checks(out, b, l, 1);
     return r;
 }
 

@@ -2,23 +2,15 @@
 use mathlib.Core.Path.{_≡_, refl, sym, ap, _∙_}
 use mathlib.Core.Logic.{by-cases}
 use mathlib.Core.List.{List}
-use Prim.Native.Nat.{ℕ, suc, _+_, _*_, _-_, _/_, _%_, _^_, _<_, _≤_}
+use Prim.Native.Nat.{ℕ, suc, _+_, _*_, _-_, _/_, _%_, _^_, _<_}
 use native.Mathlib.Decide.{decLt, ℕ-discrete}
 use native.Mathlib.Nat.{add-comm}
 use native.Mathlib.Omega.{arith}
-use borrow.Author.Count.{below-none, below-more}
-use lib.Bits.{bitXor, bitAnd, xor-zero-l, xor-zero-r, xor-shr, xor-mod, and-shr, and-mod, and-mask}
+use lib.Bits.{bitXor, bitAnd, xor-zero-l, xor-zero-r, xor-shr, xor-mod}
 use lib.ListN.{getD}
 use lib.Pow.{shr-shr, field, mod-mod-pow}
+use Rattle.track.proofs.Words.{seven, eight, ones, masked}
 use Rattle.registers.specs.Places.{byte, Low, High, Places, Shifted, BitsAt}
-
--- What holds of 0 to 6 holds below 7, and with 7 below 8.
-pub seven : (P : ℕ → Type 0) → P 0 → P 1 → P 2 → P 3 → P 4 → P 5 → P 6 → (k : ℕ) → k < 7 → P k
-seven P a b c d e f g =
-    below-more P 6 (below-more P 5 (below-more P 4 (below-more P 3 (below-more P 2 (below-more P 1 (below-more P 0 (below-none P) a) b) c) d) e) f) g
-
-pub eight : (P : ℕ → Type 0) → P 0 → P 1 → P 2 → P 3 → P 4 → P 5 → P 6 → P 7 → (k : ℕ) → k < 8 → P k
-eight P a b c d e f g h = below-more P 7 (seven P a b c d e f g) h
 
 -- What holds of the first eight places and of the others holds of all fifteen.
 fifteen : (P : ℕ → Type 0) → ((k : ℕ) → k < 8 → P k) → ((k : ℕ) → k < 7 → P (8 + k)) → (i : ℕ) → i < 15 → P i
@@ -84,14 +76,6 @@ module _ (r cells next : List ℕ) (x y u v : ℕ) (low-r : Low r x) (high-r : H
 
 -- ## Bits
 
-abbrev mask : ℕ
-mask = 0x101_0101_0101_0101
-
--- A mask of ones keeps the last bit of each byte.
-byte-mask : (x k : ℕ) → byte mask k ≡ 1 → byte (bitAnd x mask) k ≡ x / 2 ^ (8 * k) % 2
-unfolding byte
-byte-mask x k e = rw (and-shr x mask (8 * k), and-mod (x / 2 ^ (8 * k)) (mask / 2 ^ (8 * k)) 8, e, and-mask (x / 2 ^ (8 * k) % 2 ^ 8) 1) (omega arith)
-
 -- Bit j of a byte.
 bit-of-byte : (w j : ℕ) → j < 8 → w % 2 ^ 8 / 2 ^ j % 2 ≡ w / 2 ^ j % 2
 bit-of-byte w j h = ap (λ n. w % 2 ^ n / 2 ^ j % 2) e ∙ ap (λ v. v % 2) (field w (7 - j + 1) j) ∙ mod-mod-pow (w / 2 ^ j) (7 - j) 1
@@ -100,21 +84,23 @@ bit-of-byte w j h = ap (λ n. w % 2 ^ n / 2 ^ j % 2) e ∙ ap (λ v. v % 2) (fie
     e = omega arith
 
 -- Shifted by j, the last bit of each byte is its bit j.
-byte-bit : (x j k : ℕ) → j < 8 → byte mask k ≡ 1 → byte (bitAnd (x / 2 ^ j) mask) k ≡ byte x k / 2 ^ j % 2
+byte-bit : (x j k : ℕ) → j < 8 → byte ones k ≡ 1 → byte (bitAnd (x / 2 ^ j) ones) k ≡ byte x k / 2 ^ j % 2
 unfolding byte
 byte-bit x j k h e =
-    byte-mask (x / 2 ^ j) k e
+    masked (x / 2 ^ j) (8 * k) e
     ∙ ap (λ v. v % 2) (shr-shr x j (8 * k) ∙ ap (λ n. x / 2 ^ n) (add-comm j (8 * k)) ∙ sym (shr-shr x (8 * k) j))
     ∙ sym (bit-of-byte (x / 2 ^ (8 * k)) j h)
 
-mask-byte : (k : ℕ) → k < 8 → byte mask k ≡ 1
+-- Each byte of the mask is 1.
+ones-at : (k : ℕ) → k < 8 → byte ones k ≡ 1
 unfolding byte
-mask-byte = eight _ refl refl refl refl refl refl refl refl
+ones-at = eight _ refl refl refl refl refl refl refl refl
 
+-- The masked words of bytes, shifted by j, have their bits j.
 pub bits-place : (bytes cells : List ℕ) (x y j : ℕ) → Low bytes x → High bytes y → j < 8 →
-    Places (bitAnd (x / 2 ^ j) mask) (bitAnd (y / 2 ^ j) mask) cells → BitsAt bytes j cells
+    Places (bitAnd (x / 2 ^ j) ones) (bitAnd (y / 2 ^ j) ones) cells → BitsAt bytes j cells
 bits-place bytes cells x y j l g h p = record {
   place = fifteen _
-      (λ k i. p .low k i ∙ byte-bit x j k h (mask-byte k i) ∙ ap (λ v. v / 2 ^ j % 2) (l .place k i))
-      (λ k i. p .high k i ∙ byte-bit y j k h (mask-byte k (omega arith)) ∙ ap (λ v. v / 2 ^ j % 2) (g .place k i));
+      (λ k i. p .low k i ∙ byte-bit x j k h (ones-at k i) ∙ ap (λ v. v / 2 ^ j % 2) (l .place k i))
+      (λ k i. p .high k i ∙ byte-bit y j k h (ones-at k (omega arith)) ∙ ap (λ v. v / 2 ^ j % 2) (g .place k i));
 }

@@ -1,5 +1,5 @@
 -- From a payload to the cells that enter the registers.
-use mathlib.Core.Path.{_≡_, refl, sym, ap, _∙_}
+use mathlib.Core.Path.{_≡_, sym, ap, _∙_}
 use mathlib.Core.Logic.{by-cases}
 use mathlib.Core.List.{List}
 use Prim.Native.Nat.{ℕ, suc, _+_, _*_, _-_, _/_, _%_, _^_, _<_, _≤_}
@@ -13,7 +13,7 @@ use Rattle.code.specs.Payload.{digits, payload-index}
 use Rattle.code.proofs.Digits.{digits-inj, digits-digit, digits-lt}
 use Rattle.registers.specs.declared.Column.{Column}
 use Rattle.registers.specs.Places.{BitsAt}
-use Rattle.registers.specs.Register.{of-set, entering, Enter, BitsTo}
+use Rattle.registers.specs.Register.{of-set, Enter, BitsTo}
 use Rattle.registers.specs.Steps.{Sevens, DataOf, first-byte, SevenAt, Ordered, BlockBytes, CellsOf}
 
 -- ## What the functions give

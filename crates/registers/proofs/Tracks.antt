@@ -1,5 +1,5 @@
 -- Tracks 0 position by position.
-use mathlib.Core.Path.{_≡_, refl, sym, ap, _∙_}
+use mathlib.Core.Path.{_≡_, sym, _∙_}
 use mathlib.Core.Logic.{_≢_, by-cases}
 use mathlib.Core.List.{List}
 use Prim.Native.Nat.{ℕ, suc, _+_, _*_, _-_, _%_, _<_, _≤_}
@@ -8,13 +8,13 @@ use native.Mathlib.Nat.{add-zero}
 use native.Mathlib.Omega.{arith}
 use lib.ListN.{length, getD, replicate, getD-replicate}
 use lib.Seq.{getD-set-same, getD-set-other}
-use Rattle.code.specs.Record.{TrackSet, A, B, Shape, lag, track-length, Cells, diagonal}
+use Rattle.code.specs.Record.{TrackSet, A, B, Shape, track-length, Cells, diagonal}
 use Rattle.track.specs.Track.{Bits}
 use Rattle.track.proofs.Cells.{every}
 use Rattle.registers.specs.declared.Registers.{Registers}
 use Rattle.registers.specs.declared.Column.{Column}
 use Rattle.registers.specs.Register.{of-set, Hold, Enter, BitsTo}
-use Rattle.registers.specs.Steps.{Sevens, DataOf, ChecksOf, BlockBytes, CellsOf, Passed, Passing, TwoPassed, Carried}
+use Rattle.registers.specs.Steps.{Sevens, DataOf, ChecksOf, BlockBytes, Passed, Passing, TwoPassed, Carried}
 use Rattle.registers.proofs.Passing.{but-check, at-start}
 use Rattle.registers.proofs.Entering.{cells-bits, enter-data, enter-tail}
 

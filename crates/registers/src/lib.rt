@@ -1,8 +1,8 @@
 // The encoder's registers, the source's figure 4: partial sums of the diagonals ahead, handed from position to position.
 ghost use mathlib.Core.Path.{_≡_};
 ghost use mathlib.Core.List.{[], _∷_};
-ghost use Prim.Native.Nat.{ℕ, _+_, _*_, _<_, _≤_};
-ghost use lib.ListN.{length, getD};
+ghost use Prim.Native.Nat.{_+_, _*_, _<_, _≤_};
+ghost use lib.ListN.{length};
 ghost use Rattle.registers.specs.Register.{Stepped};
 ghost use Rattle.registers.specs.Steps.{SevenAt, Ordered, BlockBytes, CellsOf, Passed, TwoPassed, TailPassed, Stretches, Passing, Carried};
 ghost use Rattle.registers.specs.Places.{Word, Low, High, Places, Shifted, BitsAt};

@@ -24,9 +24,10 @@ pub const CALLS: [(&str, &[usize]); 6] = [
 pub type Class = fn(&mut Random, u64, &mut Tally);
 
 /// The classes, by the name that their generator has too.
-pub const CLASSES: [(&str, Class); 19] = [
+pub const CLASSES: [(&str, Class); 20] = [
     ("examples", examples),
     ("every_block_count", every_block_count),
+    ("every_payload_bit", every_payload_bit),
     ("damaged_records", damaged_records),
     ("long_records", long_records),
     ("noise", noise),
@@ -446,6 +447,32 @@ pub fn every_block_count(random: &mut Random, rounds: u64, tally: &mut Tally) {
             let mut damaged = image.clone();
             damage(random, shape, &mut damaged, flags);
             assert!(tally.decode(random, blocks, flags, &damaged) == Some(image), "blocks {blocks}, flags {flags}");
+        }
+    }
+}
+
+/// Payloads of one to four blocks with each bit alone, of one block with each two bits, of 256 blocks with each bit of the
+/// first and the last block alone, and all of them with every bit set: what a cell adds to the diagonals ahead, one cell at
+/// a time.
+pub fn every_payload_bit(random: &mut Random, _: u64, tally: &mut Tally) {
+    let mut encode = |blocks: u32, bits: &[usize], others: u8| {
+        let shape = Shape::base(blocks);
+        let mut payload = vec![others; shape.payload_size()];
+        for &i in bits {
+            payload[i / 8] ^= 128 >> (i % 8);
+        }
+        tally.compare(random, Call::Encode, blocks, &payload, shape.size());
+    };
+    for blocks in [1, 2, 3, 4, 256] {
+        encode(blocks, &[], 255);
+        let all = 8 * Shape::base(blocks).payload_size();
+        for i in (0..all).filter(|i| blocks <= 4 || *i < 112 || all - 112 <= *i) {
+            encode(blocks, &[i], 0);
+        }
+    }
+    for i in 0..112 {
+        for j in 0..i {
+            encode(1, &[i, j], 0);
         }
     }
 }

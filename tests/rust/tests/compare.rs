@@ -19,6 +19,11 @@ fn every_block_count() {
 }
 
 #[test]
+fn every_payload_bit() {
+    compare("every_payload_bit");
+}
+
+#[test]
 fn damaged_records() {
     compare("damaged_records");
 }

@@ -1,5 +1,5 @@
 -- `high` meets its contract: its word has those places, and a 0 behind them.
-use Rattle.registers.proofs.Bytes.{seven}
+use Rattle.track.proofs.Words.{seven}
 use borrow.Author.Needs.{needs}
 use Rattle.registers.proofs.high.Statement.{statement}
 use Rattle.registers.proofs.high.Tie as tie

@@ -1,5 +1,5 @@
 -- `low` meets its contract: its word has those places.
-use Rattle.registers.proofs.Bytes.{eight}
+use Rattle.track.proofs.Words.{eight}
 use borrow.Author.Needs.{needs}
 use Rattle.registers.proofs.low.Statement.{statement}
 use Rattle.registers.proofs.low.Tie as tie

@@ -2,7 +2,7 @@
 use mathlib.Core.Path.{refl}
 use native.Mathlib.Omega.{arith}
 use Rattle.registers.specs.Places.{byte}
-use Rattle.registers.proofs.Bytes.{seven, eight}
+use Rattle.track.proofs.Words.{seven, eight}
 use borrow.Author.Needs.{needs}
 use Rattle.registers.proofs.places.Statement.{statement}
 use Rattle.registers.proofs.places.Tie as tie

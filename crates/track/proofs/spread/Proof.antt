@@ -2,17 +2,14 @@
 use mathlib.Core.Path.{_≡_, refl}
 use Prim.Native.Nat.{ℕ, suc, _+_, _-_, _*_, _/_, _%_, _^_, _<_}
 use native.Mathlib.Omega.{arith}
-use borrow.Author.Count.{below-none, below-more}
 use borrow.Author.Needs.{needs}
-use lib.Bits.{bitAnd, and-shr, and-mod, and-mask}
+use lib.Bits.{bitAnd}
+use Rattle.track.proofs.Words.{eight, ones, masked}
 use Rattle.track.proofs.spread.Statement.{statement}
 use Rattle.track.proofs.spread.Tie as tie
 
 abbrev factor : ℕ
 factor = 0x40_2010_0804_0201
-
-abbrev mask : ℕ
-mask = 0x101_0101_0101_0101
 
 -- All bits but the last, each at the start of a byte of its own, with others between them.
 abbrev product : ℕ → ℕ
@@ -31,22 +28,18 @@ sum-of b =
     let top : b * 0x8000_0000_0000_0000 % 0x1_0000_0000_0000_0000 ≡ 0x80 * last b = omega arith in
     rw top (omega arith)
 
--- The mask keeps the last bit of a byte.
-masked : (x w : ℕ) → mask / 2 ^ w % 2 ^ 8 ≡ 1 → bitAnd x mask / 2 ^ w % 2 ^ 8 ≡ x / 2 ^ w % 2
-masked x w e = rw (and-shr x mask w, and-mod (x / 2 ^ w) (mask / 2 ^ w) 8, e, and-mask (x / 2 ^ w % 2 ^ 8) 1) (omega arith)
-
 -- Byte k is bit 7 - k if the last bit lies above it, and the product's bits from 8 k on are that bit's and above.
 cell : (b k : ℕ) →
     (product b + last b) / 2 ^ (8 * k) ≡ product b / 2 ^ (8 * k) + (b % 2 * 2 ^ (55 - 8 * k)) * 2 →
     product b / 2 ^ (8 * k) ≡ b / 2 ^ (8 - suc k) + (b * (factor / 2 ^ (8 * suc k))) * 2 →
-    mask / 2 ^ (8 * k) % 2 ^ 8 ≡ 1 → bitAnd (both b) mask / 2 ^ (8 * k) % 2 ^ 8 ≡ b / 2 ^ (8 - suc k) % 2
+    ones / 2 ^ (8 * k) % 2 ^ 8 ≡ 1 → bitAnd (both b) ones / 2 ^ (8 * k) % 2 ^ 8 ≡ b / 2 ^ (8 - suc k) % 2
 cell b k above bits one = rw (masked (both b) (8 * k) one, sum-of b, above) (omega arith)
 
 -- The highest byte is the last bit.
 top : (p v : ℕ) → p < 2 ^ 56 → (p + v * 2 ^ 56) / 2 ^ 56 ≡ v
 top p v h = omega arith
 
-highest : (b : ℕ) → b < 256 → bitAnd (both b) mask / 2 ^ 56 % 2 ^ 8 ≡ b % 2
+highest : (b : ℕ) → b < 256 → bitAnd (both b) ones / 2 ^ 56 % 2 ^ 8 ≡ b % 2
 highest b h = rw (masked (both b) 56 refl, sum-of b, top (product b) (b % 2) (omega arith)) (omega arith)
 
 mul-result : tie.Need-mul-result
@@ -58,20 +51,14 @@ add-result c = search needs
 returns : tie.Need-returns
 returns c =
     let b = c .args .byte in
-    below-more _ 7
-    (below-more _ 6
-    (below-more _ 5
-    (below-more _ 4
-    (below-more _ 3
-    (below-more _ 2
-    (below-more _ 1
-    (below-more _ 0 (below-none _) (cell b 0 (omega arith) (omega arith) refl))
-    (cell b 1 (omega arith) (omega arith) refl))
-    (cell b 2 (omega arith) (omega arith) refl))
-    (cell b 3 (omega arith) (omega arith) refl))
-    (cell b 4 (omega arith) (omega arith) refl))
-    (cell b 5 (omega arith) (omega arith) refl))
-    (cell b 6 (omega arith) (omega arith) refl))
+    eight _
+    (cell b 0 (omega arith) (omega arith) refl)
+    (cell b 1 (omega arith) (omega arith) refl)
+    (cell b 2 (omega arith) (omega arith) refl)
+    (cell b 3 (omega arith) (omega arith) refl)
+    (cell b 4 (omega arith) (omega arith) refl)
+    (cell b 5 (omega arith) (omega arith) refl)
+    (cell b 6 (omega arith) (omega arith) refl)
     (omega (arith, highest b (omega arith)))
 
 pub spread-spec : {M : Type 1} → statement M
