@@ -481,13 +481,10 @@ static inline struct registers step(struct registers r, struct registers cells)
 static inline struct places ordered(const uint8_t *own, const uint8_t *across)
 {
     uint8_t bytes[16] = {0};
-    struct places r;
     memcpy(bytes, own, DATA);
     for (size_t i = 0; i < DATA; i++)
         bytes[DATA + i] = across[DATA - 1 - i];
-    memcpy(&r.low, bytes, 8);
-    memcpy(&r.high, bytes + 8, 8);
-    return r;
+    return (struct places){four(bytes) | four(bytes + 4) << 32, four(bytes + 8) | four(bytes + 12) << 32};
 }
 
 /* A position passes: the heads are its tracks 0, and its other cells are bit k of each byte. */

@@ -82,6 +82,12 @@ unfolding sum
 sum-le zero f g h = omega arith
 sum-le (suc n) f g h = omega (arith, h n (omega arith), sum-le n f g (λ t l. h t (omega arith)))
 
+-- A sum without its first term.
+pub sum-first : (n : ℕ) (f : ℕ → ℕ) → sum (suc n) f ≡ f 0 + sum n (λ t. f (suc t))
+unfolding sum
+sum-first zero f = omega arith
+sum-first (suc n) f = omega (arith, sum-first n f)
+
 -- Two sums that agree in all terms but term i differ as those terms do.
 pub sum-but-one : (n i : ℕ) (f g : ℕ → ℕ) → i < n → ((t : ℕ) → t < n → t ≢ i → f t ≡ g t) → sum n f + g i ≡ sum n g + f i
 unfolding sum

@@ -2,7 +2,7 @@
 use mathlib.Core.Path.{_≡_, refl, _∙_}
 use mathlib.Core.Logic.{_≢_, by-cases}
 use mathlib.Core.List.{List}
-use Prim.Native.Nat.{ℕ, zero, suc, _+_, _*_, _%_, _<_, _≤_}
+use Prim.Native.Nat.{ℕ, suc, _+_, _*_, _%_, _<_, _≤_}
 use native.Mathlib.Decide.{ℕ-discrete}
 use native.Mathlib.Numerals.{add-one}
 use native.Mathlib.Omega.{arith}
@@ -10,7 +10,7 @@ use lib.ListN.{length, getD}
 use Rattle.code.specs.Record.{TrackSet, A, B, Shape, data-tracks, tracks, track-length, back, sum, vertical}
 use Rattle.code.specs.Image.{track-number, image-size, cells}
 use Rattle.code.proofs.Places.{each-cell}
-use Rattle.code.proofs.Sums.{sum-same}
+use Rattle.code.proofs.Sums.{sum-same, sum-first}
 use Rattle.track.specs.Track.{Bits, Added}
 use Rattle.track.proofs.Cells.{every}
 use Rattle.track.proofs.Rows.{part, part-row}
@@ -49,12 +49,6 @@ added-more sh s n g image before now after size e room d a = rw (add-one n) (rec
     cell m h = part-row (track-length sh) image g room m h ∙ rw (e, add-one n)
 
 -- ## Writing the check tracks
-
--- A sum without its first term.
-sum-first : (n : ℕ) (f : ℕ → ℕ) → sum (suc n) f ≡ f 0 + sum n (λ t. f (suc t))
-unfolding sum
-sum-first zero f = omega arith
-sum-first (suc n) f = omega (arith, sum-first n f)
 
 -- The tracks of a set have numbers of their own.
 other-number : (sh : Shape) (s : TrackSet) (t u : ℕ) → t ≢ u → track-number sh s t ≢ track-number sh s u

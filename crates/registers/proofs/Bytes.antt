@@ -18,6 +18,7 @@ fifteen P low high i h = by-cases (decLt i 8) (low i) (λ k. let e : i ≡ 8 + (
 
 -- ## Sums and shifts
 
+-- The bytes of a sum are the sums of the bytes.
 byte-xor : (x y k : ℕ) → byte (bitXor x y) k ≡ bitXor (byte x k) (byte y k)
 unfolding byte
 byte-xor x y k = ap (λ v. v % 2 ^ 8) (xor-shr x y (8 * k)) ∙ xor-mod (x / 2 ^ (8 * k)) (y / 2 ^ (8 * k)) 8
@@ -29,6 +30,7 @@ byte-shr x k =
     let e : 8 + 8 * k ≡ 8 * suc k = omega arith in
     ap (λ v. v % 2 ^ 8) (rw e at (shr-shr x 8 (8 * k)))
 
+-- A word has eight bytes.
 byte-past : (x : ℕ) → x < 2 ^ 64 → byte x 8 ≡ 0
 unfolding byte
 byte-past x h = omega arith
@@ -37,6 +39,7 @@ byte-past x h = omega arith
 top-is : (y : ℕ) → y * 2 ^ 56 % 2 ^ 64 ≡ y % 2 ^ 8 * 2 ^ 56
 top-is y = omega arith
 
+-- It is the last byte there, and the others are 0.
 byte-top : (y : ℕ) → byte (y * 2 ^ 56 % 2 ^ 64) 7 ≡ byte y 0
 unfolding byte
 byte-top y = rw (top-is y) (omega arith)
@@ -48,17 +51,20 @@ byte-below y = rw (top-is y) (seven _ (omega arith) (omega arith) (omega arith) 
 -- The words of a register, shifted by a byte and with the words of cells added, are those of the register shifted by a place.
 module _ (r cells next : List ℕ) (x y u v : ℕ) (low-r : Low r x) (high-r : High r y) (low-c : Low cells u) (high-c : High cells v) (small : x < 2 ^ 64)
     (p : Places (bitXor (bitXor (x / 2 ^ 8) (y * 2 ^ 56 % 2 ^ 64)) u) (bitXor (y / 2 ^ 8) v) next) where
+  -- Each place in bytes of the words.
   low-byte : (k : ℕ) → k < 8 → getD next k 0 ≡ bitXor (bitXor (byte x (suc k)) (byte (y * 2 ^ 56 % 2 ^ 64) k)) (getD cells k 0)
   low-byte k h = p .low k h ∙ rw (byte-xor (bitXor (x / 2 ^ 8) (y * 2 ^ 56 % 2 ^ 64)) u k, byte-xor (x / 2 ^ 8) (y * 2 ^ 56 % 2 ^ 64) k, byte-shr x k, low-c .place k h)
 
   high-byte : (k : ℕ) → k < 7 → getD next (8 + k) 0 ≡ bitXor (byte y (suc k)) (getD cells (8 + k) 0)
   high-byte k h = p .high k h ∙ rw (byte-xor (y / 2 ^ 8) v k, byte-shr y k, high-c .place k h)
 
+  -- The word of the first eight places takes its last byte from the other word.
   next-byte : (k : ℕ) → k < 8 → bitXor (byte x (suc k)) (byte (y * 2 ^ 56 % 2 ^ 64) k) ≡ getD r (suc k) 0
   next-byte k h = by-cases (ℕ-discrete k 7)
       (λ e. rw (e, byte-past x small, byte-top y) (xor-zero-l _ ∙ high-r .place 0 (omega arith)))
       (λ d. rw (byte-below y k (omega arith)) (xor-zero-r _ ∙ low-r .place (suc k) (omega arith)))
 
+  -- Each place by the next one of the register.
   low-place : (k : ℕ) → k < 8 → getD next k 0 ≡ bitXor (getD r (suc k) 0) (getD cells k 0)
   low-place k h = low-byte k h ∙ rw (next-byte k h)
 

@@ -18,6 +18,7 @@ use Rattle.registers.specs.Steps.{Sevens, DataOf, first-byte, SevenAt, O
 
 -- ## What the functions give
 
+-- Seven bytes of each set, in the order of each register.
 pub ordered-bytes : (payload : List ℕ) (at : ℕ) (a b places-a places-b : List ℕ) → SevenAt payload at a → SevenAt payload (at + 7) b → Ordered a b places-a → Ordered b a places-b →
     BlockBytes payload at (record { a = places-a; b = places-b })
 ordered-bytes payload at a b places-a places-b p q u v = record { own = own; across = across }
@@ -33,6 +34,7 @@ ordered-bytes payload at a b places-a places-b p q u v = record { own = own; acr
     across A k h = u .then k h ∙ q .byte-at (6 - k) (omega arith)
     across B k h = v .then k h ∙ p .byte-at (6 - k) (omega arith) ∙ index _ _ (omega arith)
 
+-- The bits of both sets' places.
 pub both-bits-at : (bytes : Column) (k : ℕ) (a b : List ℕ) → BitsAt (bytes .a) k a → BitsAt (bytes .b) k b → CellsOf bytes k (record { a = a; b = b })
 both-bits-at bytes k a b p q = record { bits-at = go }
   where

@@ -20,12 +20,13 @@ use Rattle.registers.specs.Register.{cells-before, Register, of-set, Hol
 
 -- ## The cells before a position
 
+-- A cell is before position m, or it is not.
 module _ (x : Cells) (s : TrackSet) (t q m : ℕ) where
-  pub before-is : q < m → cells-before m x s t q ≡ x s t q
+  before-is : q < m → cells-before m x s t q ≡ x s t q
   unfolding cells-before
   before-is h = rw (lt-ltb q m h)
 
-  pub before-none : m ≤ q → cells-before m x s t q ≡ 0
+  before-none : m ≤ q → cells-before m x s t q ≡ 0
   unfolding cells-before
   before-none h = rw (le-ltb q m h)
 
@@ -37,6 +38,7 @@ before-next x s t q m d = by-cases (decLt q m)
 
 -- ## Diagonals
 
+-- The data tracks of the set, and of the other one.
 module _ (sh : Shape) (x : Cells) (s : TrackSet) (m : ℕ) where
   abbrev T : ℕ
   T = data-tracks sh s
@@ -75,13 +77,13 @@ module _ (sh : Shape) (x : Cells) (s : TrackSet) (m : ℕ) where
   )
 
   -- The diagonals ahead have one cell of position m each.
-  pub adds : (k d : ℕ) → m + suc k ≡ d → k < lag sh → Adds d (entering sh x s m k)
+  adds : (k d : ℕ) → m + suc k ≡ d → k < lag sh → Adds d (entering sh x s m k)
   adds k d e b = by-cases (decLt k T)
       (λ h. rw (lt-ltb k T h) (adds-own k d e h))
       (λ h. let l : T ≤ k = omega arith in rw (le-ltb k T l) (adds-across k d e l b))
 
   -- The diagonal a lag ahead has no cell before m.
-  pub none-yet : diagonal sh (cells-before m x) s (m + lag sh) ≡ 0
+  none-yet : diagonal sh (cells-before m x) s (m + lag sh) ≡ 0
   unfolding diagonal
   none-yet = omega (
     arith,
@@ -139,7 +141,7 @@ module _ (sh : Shape) (x : Cells) (s : TrackSet) (m : ℕ) (places : lag sh ≡ 
         rw first at (adds-across sh x s m 14 (m + lag sh) (omega arith) (omega (arith, lag-sets sh s)) (omega arith)),
       ))
 
-  pub register-next : Register sh x s (suc m) next
+  register-next : Register sh x s (suc m) next
   register-next = record { place = λ k h. by-cases (ℕ-discrete k 14) (λ e. rw e late) (λ d. early k (omega arith)) }
 
 -- Bits stay bits.
@@ -149,6 +151,7 @@ bits-next r o c next mine head bit room shifted k h = by-cases (ℕ-discrete k 1
     (λ e. rw (e, shifted .last, getD-set-same c 14 (getD o 0 0) 0 room) head)
     (λ d. rw (shifted .place k (omega arith), getD-set-other c 14 k (getD o 0 0) 0 d) (xor-lt 1 _ _ (mine (suc k) (omega arith)) (bit k (omega arith))))
 
+-- Both registers.
 module _ (r : Registers) (c : Column) (a b : List ℕ) (room-a : 14 < length (c .a)) (room-b : 14 < length (c .b))
     (p : Shifted (r .a) (set (c .a) 14 (getD (r .b) 0 0)) a) (q : Shifted (r .b) (set (c .b) 14 (getD (r .a) 0 0)) b) where
   registers-next : (sh : Shape) (x : Cells) (m : ℕ) → lag sh ≡ 15 → BitsTo 14 (c .a) (c .b) → Hold sh x m r → Enter sh x m c → Heads x m r →
