@@ -22,6 +22,7 @@ SHARED = libaxp.so.$(VERSION)
 SOURCES = crates.txt $(shell find crates -name '*.rt' -o -name '*.antt')
 SAMPLE = 16 36900 samples/damaged.img
 LOST_SAMPLE = 16 0 samples/lost.img
+STRETCH_SAMPLE = 16 @samples/stretches.txt samples/stretches.img
 
 all: build/libaxp.a build/libaxp.so build/axp
 
@@ -33,7 +34,7 @@ build/libaxp.a: $(SOURCES) | build
 	rt staticlib axp_c
 	cp target/staticlib/libaxp_c.a $@
 
-# The archive's six calls, as a shared library.
+# The archive's seven calls, as a shared library.
 build/$(SHARED): build/libaxp.a include/axp.h
 	$(CC) -shared -Wl,-soname,$(SONAME) -Wl,-z,defs -o $@ -Wl,--whole-archive build/libaxp.a -Wl,--no-whole-archive
 
@@ -57,11 +58,12 @@ build/sample: tools/sample.c include/axp.h build/libaxp.a
 demo: build/repair build/picture
 	build/repair $(SAMPLE)
 	build/repair $(LOST_SAMPLE)
+	build/repair $(STRETCH_SAMPLE)
 	build/picture $(SAMPLE) >build/picture.svg
 	@echo 'the record by track and position, damaged and repaired: build/picture.svg'
 
 sample: build/sample
-	build/sample samples/text.txt samples/good.img samples/damaged.img samples/lost.img
+	build/sample samples/text.txt samples/good.img samples/damaged.img samples/lost.img samples/stretches.img samples/stretches.txt
 
 docs/picture.svg: build/picture samples/damaged.img
 	build/picture $(SAMPLE) >$@

@@ -28,21 +28,24 @@
  * ones it takes more. An output has room past every result.
  */
 enum { FEW_INPUTS = 3 * AXP_TRACKS, INPUTS = 24 * AXP_TRACKS };
-enum { SET = AXP_TRACKS / 2, ROOM = AXP_MAX_IMAGE_SIZE + 64, ROWS = 18 };
+enum { SET = AXP_TRACKS / 2, ROOM = AXP_MAX_IMAGE_SIZE + 64, ROWS = 21 };
 
 /* The runs of each, spread over some passes over all cases, so that a slow spell of the machine falls on no case alone. */
 enum { PASSES = 20, RUNS = 160 };
 
-typedef axp_result (*call)(uint32_t blocks, uint32_t flags, const uint8_t *bytes, size_t len, uint8_t *out, size_t out_len);
-
-/* An input, memory of its own where it has any, and what is right: the bytes at the start of the output, and the answer. */
+/* An input: flags or a table of spans, memory of its own where it has any, and what is right: the bytes at the start of the output,
+ * and the answer. */
 struct input {
     uint32_t flags;
     const uint8_t *bytes;
     uint8_t *memory;
     const uint8_t *result;
     axp_result answer;
+    size_t span_count;
+    axp_span spans[AXP_MAX_SPANS];
 };
+
+typedef axp_result (*call)(uint32_t blocks, const struct input *x, size_t len, uint8_t *out, size_t out_len);
 
 /* Who runs: the name, the call, an output of its own, and nanoseconds a call. */
 struct runner {
@@ -73,6 +76,13 @@ static _Alignas(4096) uint8_t library_out[ROOM];
 static _Alignas(4096) uint8_t plain_out[ROOM];
 static volatile uint32_t sink;
 
+/* An input without a table. */
+static struct input plain_input(uint32_t flags, const uint8_t *bytes, uint8_t *memory, const uint8_t *result, axp_result answer)
+{
+    struct input x = {.flags = flags, .bytes = bytes, .memory = memory, .result = result, .answer = answer};
+    return x;
+}
+
 static uint64_t state = 1;
 
 static uint32_t next(void)
@@ -93,29 +103,34 @@ static void *allocate(size_t size)
 
 /* ---- calls of one type */
 
-#define WITHOUT_FLAGS(name, function) \
-    static axp_result name(uint32_t n, uint32_t flags, const uint8_t *bytes, size_t len, uint8_t *out, size_t out_len) \
+#define CALL(name, ...) \
+    static axp_result name(uint32_t n, const struct input *x, size_t len, uint8_t *out, size_t out_len) \
     { \
-        (void)flags; \
-        return function(n, bytes, len, out, out_len); \
+        return __VA_ARGS__; \
     }
 
-WITHOUT_FLAGS(library_encode, axp_encode)
-WITHOUT_FLAGS(library_read, axp_read)
-WITHOUT_FLAGS(library_pack, axp_pack)
-WITHOUT_FLAGS(library_unpack, axp_unpack)
-WITHOUT_FLAGS(c_encode, plain_encode)
-WITHOUT_FLAGS(c_read, plain_read)
-WITHOUT_FLAGS(c_pack, plain_pack)
-WITHOUT_FLAGS(c_unpack, plain_unpack)
+CALL(library_encode, axp_encode(n, x->bytes, len, out, out_len))
+CALL(library_read, axp_read(n, x->bytes, len, out, out_len))
+CALL(library_repair, axp_repair(n, x->flags, x->bytes, len, out, out_len))
+CALL(library_trace, axp_trace(n, x->flags, x->bytes, len, out, out_len))
+CALL(library_spans, axp_repair_spans(n, x->spans, x->span_count, x->bytes, len, out, out_len))
+CALL(library_pack, axp_pack(n, x->bytes, len, out, out_len))
+CALL(library_unpack, axp_unpack(n, x->bytes, len, out, out_len))
+CALL(c_encode, plain_encode(n, x->bytes, len, out, out_len))
+CALL(c_read, plain_read(n, x->bytes, len, out, out_len))
+CALL(c_repair, plain_repair(n, x->flags, x->bytes, len, out, out_len))
+CALL(c_trace, plain_trace(n, x->flags, x->bytes, len, out, out_len))
+CALL(c_spans, plain_repair_spans(n, x->spans, x->span_count, x->bytes, len, out, out_len))
+CALL(c_pack, plain_pack(n, x->bytes, len, out, out_len))
+CALL(c_unpack, plain_unpack(n, x->bytes, len, out, out_len))
 
 /* The answer 0 with no changed cell. */
 static const axp_result unchanged = {AXP_OK, 0, 0, 0, AXP_NO_EXTRA, AXP_NO_EXTRA};
 
-static axp_result copy_image(uint32_t n, uint32_t flags, const uint8_t *image, size_t len, uint8_t *out, size_t out_len)
+static axp_result copy_image(uint32_t n, const struct input *x, size_t len, uint8_t *out, size_t out_len)
 {
-    (void)n, (void)flags, (void)out_len;
-    memcpy(out, image, len);
+    (void)n, (void)out_len;
+    memcpy(out, x->bytes, len);
     return unchanged;
 }
 
@@ -125,15 +140,16 @@ enum { K = 14, M = 18, LOST = 4 };
 static unsigned char generator[K * M];
 
 /* The parts follow one another. The flags name the lost ones, four data parts: the inverse of what is left, then the four. */
-static axp_result isal_decode(uint32_t n, uint32_t flags, const uint8_t *parts, size_t len, uint8_t *out, size_t out_len)
+static axp_result isal_decode(uint32_t n, const struct input *x, size_t len, uint8_t *out, size_t out_len)
 {
+    uint32_t flags = x->flags;
     unsigned char left[K * K], inverse[K * K], rows[K * LOST], tables[32 * K * LOST];
     unsigned char *from[K], *to[LOST];
     int kept = 0, lost = 0;
     (void)len, (void)out_len;
     for (int i = 0; i < M && kept < K; i++)
         if (!(flags >> i & 1)) {
-            from[kept] = (unsigned char *)parts + (size_t)i * n;
+            from[kept] = (unsigned char *)x->bytes + (size_t)i * n;
             memcpy(left + K * kept, generator + K * i, K);
             kept++;
         }
@@ -188,7 +204,7 @@ static void compare(const struct row *row)
         for (int k = 0; k < row->runner_count; k++) {
             const struct runner *w = &row->runners[k];
             memcpy(w->out, pattern, ROOM);
-            axp_result r = w->call(blocks, x->flags, x->bytes, row->input_len, w->out, ROOM);
+            axp_result r = w->call(blocks, x, row->input_len, w->out, ROOM);
             if (k == 0)
                 first = r;
             if (!same(r, first)) {
@@ -229,7 +245,7 @@ static double run(const struct row *row, const struct runner *w)
     double from = now();
     for (size_t r = 0; r < row->rounds; r++)
         for (const struct input *x = row->inputs; x < row->inputs + input_count; x++)
-            sink += w->call(blocks, x->flags, x->bytes, row->input_len, w->out, ROOM).answer;
+            sink += w->call(blocks, x, row->input_len, w->out, ROOM).answer;
     return now() - from;
 }
 
@@ -410,25 +426,25 @@ typedef struct input (*meaning)(uint8_t *image, const uint8_t *record, uint32_t 
 
 static struct input flagged(uint8_t *image, const uint8_t *record, uint32_t damaged)
 {
-    return (struct input){damaged, image, image, record, changes(image, record, damaged)};
+    return plain_input(damaged, image, image, record, changes(image, record, damaged));
 }
 
 static struct input unknown(uint8_t *image, const uint8_t *record, uint32_t damaged)
 {
     (void)damaged;
-    return (struct input){0, image, image, record, changes(image, record, 0)};
+    return plain_input(0, image, image, record, changes(image, record, 0));
 }
 
 /* Tracks with a lost cell are not flagged by the word, and are no extras. */
 static struct input lost(uint8_t *image, const uint8_t *record, uint32_t damaged)
 {
-    return (struct input){0, image, image, record, changes(image, record, damaged)};
+    return plain_input(0, image, image, record, changes(image, record, damaged));
 }
 
 static struct input out_of_reach(uint8_t *image, const uint8_t *record, uint32_t damaged)
 {
     (void)record, (void)damaged;
-    return (struct input){0, image, image, image, {AXP_NO_RECORD, 0, 0, 0, AXP_NO_EXTRA, AXP_NO_EXTRA}};
+    return plain_input(0, image, image, image, (axp_result){AXP_NO_RECORD, 0, 0, 0, AXP_NO_EXTRA, AXP_NO_EXTRA});
 }
 
 /* Images of the records, each with this damage to some tracks. */
@@ -449,19 +465,78 @@ static void add_damaged(const char *name, call library, call plain, uint32_t (*t
     }
 }
 
+/* Flagged stretches of an image: some cells of one track, in order of the cells. Each is a pair of the table. */
+static void add_stretch(struct input *x, uint8_t *image, size_t g, size_t from, size_t n)
+{
+    size_t at = g * AXP_TRACK_LENGTH(blocks) + from, k = x->span_count++;
+    assert(k < AXP_MAX_SPANS);
+    for (; k > 0 && x->spans[k - 1].offset > at; k--)
+        x->spans[k] = x->spans[k - 1];
+    x->spans[k] = (axp_span){(uint32_t)at, (uint32_t)n};
+    noise(image + at, n);
+}
+
+/* Whole tracks of noise, three of one set and one of the other. */
+static void whole_tracks(struct input *x, uint8_t *image, unsigned k)
+{
+    uint32_t tracks = three_and_one(k);
+    for (size_t g = 0; g < AXP_TRACKS; g++)
+        if (tracks >> g & 1)
+            add_stretch(x, image, g, 0, AXP_TRACK_LENGTH(blocks));
+}
+
+/* In each of three tracks of one set and one of the other a burst of 100 cells, or of a whole shorter track. */
+static void bursts(struct input *x, uint8_t *image, unsigned k)
+{
+    size_t l = AXP_TRACK_LENGTH(blocks), n = l < 100 ? l : 100;
+    uint32_t tracks = three_and_one(k);
+    for (size_t g = 0; g < AXP_TRACKS; g++)
+        if (tracks >> g & 1)
+            add_stretch(x, image, g, next() % (l - n + 1), n);
+}
+
+/* Up to 64 stretches of one to eight cells, scattered over the tracks, one in as many positions as are left for each, 24 at least. */
+static void short_stretches(struct input *x, uint8_t *image, unsigned k)
+{
+    size_t l = AXP_TRACK_LENGTH(blocks), count = l / 24 < AXP_MAX_SPANS ? l / 24 : AXP_MAX_SPANS;
+    if (count == 0)
+        count = 1;
+    for (size_t i = 0; i < count; i++) {
+        size_t places = l / count, n = 1 + next() % 8;
+        add_stretch(x, image, (i + k) % 4 ? next() % AXP_TRACKS : k % AXP_TRACKS, i * places + next() % (places - n + 1), n);
+    }
+}
+
+/* Images of the records, each with some flagged stretches of noise. */
+static void add_spans(const char *name, void (*stretches)(struct input *x, uint8_t *image, unsigned k))
+{
+    size_t size = AXP_IMAGE_SIZE(blocks);
+    struct row *row = add_row(name, size, size, library_spans, c_spans);
+    unsigned order[INPUTS];
+    shuffle(order);
+    for (int i = 0; i < input_count; i++) {
+        struct input *x = &row->inputs[i];
+        uint8_t *image = allocate(size);
+        memcpy(image, records[i], size);
+        *x = plain_input(0, image, image, records[i], unchanged);
+        stretches(x, image, order[i]);
+        x->answer = changes(image, records[i], ((uint32_t)1 << AXP_TRACKS) - 1);
+    }
+}
+
 /* Payloads and records, from the ones to the others. */
 static void add_encode(const char *name)
 {
     struct row *row = add_row(name, AXP_PAYLOAD_SIZE(blocks), AXP_IMAGE_SIZE(blocks), library_encode, c_encode);
     for (int i = 0; i < input_count; i++)
-        row->inputs[i] = (struct input){0, payloads[i], NULL, records[i], unchanged};
+        row->inputs[i] = plain_input(0, payloads[i], NULL, records[i], unchanged);
 }
 
 static void add_read(const char *name)
 {
     struct row *row = add_row(name, AXP_IMAGE_SIZE(blocks), AXP_PAYLOAD_SIZE(blocks), library_read, c_read);
     for (int i = 0; i < input_count; i++)
-        row->inputs[i] = (struct input){0, records[i], NULL, payloads[i], unchanged};
+        row->inputs[i] = plain_input(0, records[i], NULL, payloads[i], unchanged);
 }
 
 /* An image of bits by chance, good record or not, and behind it its packed form, bit by bit. */
@@ -488,7 +563,7 @@ static void add_pack(const char *name)
     struct row *row = add_row(name, size, AXP_PACKED_SIZE(blocks), library_pack, c_pack);
     for (int i = 0; i < input_count; i++) {
         uint8_t *image = packed_image();
-        row->inputs[i] = (struct input){0, image, image, image + size, unchanged};
+        row->inputs[i] = plain_input(0, image, image, image + size, unchanged);
     }
 }
 
@@ -498,7 +573,7 @@ static void add_unpack(const char *name)
     struct row *row = add_row(name, AXP_PACKED_SIZE(blocks), size, library_unpack, c_unpack);
     for (int i = 0; i < input_count; i++) {
         uint8_t *image = packed_image();
-        row->inputs[i] = (struct input){0, image + size, image, image, unchanged};
+        row->inputs[i] = plain_input(0, image + size, image, image, unchanged);
     }
 }
 
@@ -510,7 +585,7 @@ static void compare_padding(const char *name)
     for (int i = 0; i < input_count; i++) {
         uint8_t *image = packed_image();
         image[size + (size_t)(i % AXP_TRACKS) * n + n - 1] |= 1;
-        row->inputs[i] = (struct input){0, image + size, image, image, {AXP_PADDING, 0, 0, 0, AXP_NO_EXTRA, AXP_NO_EXTRA}};
+        row->inputs[i] = plain_input(0, image + size, image, image, (axp_result){AXP_PADDING, 0, 0, 0, AXP_NO_EXTRA, AXP_NO_EXTRA});
     }
     compare(row);
     free_row();
@@ -534,7 +609,7 @@ static void add_isal(const char *name)
         for (int k = K; k < M; k++)
             to[k - K] = parts + (size_t)k * blocks;
         ec_encode_data((int)blocks, K, M - K, tables, from, to);
-        row->inputs[i] = (struct input){flags, parts, parts, lost, unchanged};
+        row->inputs[i] = plain_input(flags, parts, parts, lost, unchanged);
         for (int k = 0; k < K; k++)
             if (flags >> k & 1) {
                 memcpy(lost, from[k], blocks);
@@ -595,16 +670,19 @@ static void all(uint32_t n)
     add_damaged("copy of the image", copy_image, NULL, no_track, noise, unknown);
     add_encode("encode");
     add_read("read a clean record");
-    add_damaged("repair a clean record", axp_repair, plain_repair, no_track, noise, flagged);
-    add_damaged("repair one flagged track", axp_repair, plain_repair, one_track, noise, flagged);
-    add_damaged("repair 2 + 2 tracks of noise", axp_repair, plain_repair, two_and_two, noise, flagged);
-    add_damaged("repair 3 + 1 tracks of noise", axp_repair, plain_repair, three_and_one, noise, flagged);
-    add_damaged("repair two bursts of lost cells", axp_repair, plain_repair, any_two, burst, lost);
-    add_damaged("trace a clean record", axp_trace, plain_trace, no_track, noise, unknown);
-    add_damaged("trace one unknown track", axp_trace, plain_trace, one_track, noise, unknown);
-    add_damaged("trace two unknown tracks", axp_trace, plain_trace, one_and_one, noise, unknown);
-    add_damaged("trace two unknown tracks, the last", axp_trace, plain_trace, last_choice, noise, unknown);
-    add_damaged("trace to 7, errors at the very end", axp_trace, plain_trace, two_of_a_set, last_data_cell, out_of_reach);
+    add_damaged("repair a clean record", library_repair, c_repair, no_track, noise, flagged);
+    add_damaged("repair one flagged track", library_repair, c_repair, one_track, noise, flagged);
+    add_damaged("repair 2 + 2 tracks of noise", library_repair, c_repair, two_and_two, noise, flagged);
+    add_damaged("repair 3 + 1 tracks of noise", library_repair, c_repair, three_and_one, noise, flagged);
+    add_damaged("repair two bursts of lost cells", library_repair, c_repair, any_two, burst, lost);
+    add_spans("spans: 3 + 1 whole tracks of noise", whole_tracks);
+    add_spans("spans: bursts of 100 in 3 + 1 tracks", bursts);
+    add_spans("spans: 64 short stretches", short_stretches);
+    add_damaged("trace a clean record", library_trace, c_trace, no_track, noise, unknown);
+    add_damaged("trace one unknown track", library_trace, c_trace, one_track, noise, unknown);
+    add_damaged("trace two unknown tracks", library_trace, c_trace, one_and_one, noise, unknown);
+    add_damaged("trace two unknown tracks, the last", library_trace, c_trace, last_choice, noise, unknown);
+    add_damaged("trace to 7, errors at the very end", library_trace, c_trace, two_of_a_set, last_data_cell, out_of_reach);
     add_pack("pack");
     add_unpack("unpack");
     compare_padding("unpack to 8");

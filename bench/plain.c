@@ -799,3 +799,180 @@ axp_result plain_trace(uint32_t blocks, uint32_t flags, const uint8_t *restrict 
     put_back(image, out, image_len, lost);
     return answer(7, 0);
 }
+
+/* ---- repairer with flags by stretch */
+
+/* Number 9 aside: is a table in order, for an image of so many cells? */
+static bool is_right(const axp_span *spans, size_t count, size_t cells)
+{
+    size_t end = 0;
+    if (count > AXP_MAX_SPANS)
+        return false;
+    for (size_t k = 0; k < count; k++) {
+        size_t from = spans[k].offset, size = spans[k].length;
+        if (size == 0 || from < end)
+            return false;
+        end = from + size;
+        if (cells < end)
+            return false;
+    }
+    return true;
+}
+
+/* Flags the cells of a table in the words of the positions: bit g of word m for cell m of track number g. */
+static void flag_pairs(const axp_span *spans, size_t count, size_t l, uint32_t *words)
+{
+    for (size_t k = 0; k < count; k++) {
+        size_t at = spans[k].offset, to = at + spans[k].length;
+        while (at < to) {
+            size_t m = at % l, n = to - at < l - m ? to - at : l - m;
+            uint32_t bit = (uint32_t)1 << at / l;
+            for (size_t i = 0; i < n; i++)
+                words[m + i] |= bit;
+            at += n;
+        }
+    }
+}
+
+/* Flags the lost cells, not their tracks. */
+static void flag_lost(const uint8_t *image, size_t l, uint32_t *words)
+{
+    for (size_t g = 0; g < ALL; g++)
+        if (highest(image + g * l, l) == AXP_LOST)
+            for (size_t m = 0; m < l; m++)
+                words[m] |= image[g * l + m] == AXP_LOST ? (uint32_t)1 << g : 0;
+}
+
+/* The tracks with a flagged cell in the 16 positions from each on, and whether all have a code. */
+static bool find_windows(const uint32_t *restrict words, uint32_t *restrict near, size_t l)
+{
+    uint32_t last = 0;
+    memcpy(near, words, l * sizeof *near);
+    for (size_t d = 1; d <= 8; d *= 2)
+        for (size_t m = 0; m + d < l; m++)
+            near[m] |= near[m + d];
+    for (size_t m = 0; m < l; m++)
+        if (near[m] != last) {
+            uint8_t marks[ALL];
+            marks_of(near[m], marks);
+            if (code_of(marks) == 0)
+                return false;
+            last = near[m];
+        }
+    return true;
+}
+
+/* Where the run of positions with the same words ends. */
+static size_t run_end(const uint32_t *words, const uint32_t *near, size_t from, size_t to)
+{
+    size_t m = from + 1;
+    while (m < to && words[m] == words[from] && near[m] == near[from])
+        m++;
+    return m;
+}
+
+/* The one marked track of a set, or none. */
+static size_t one_track(const uint8_t *marks, size_t s)
+{
+    plan q = make_plan(marks, s);
+    return is_single(q) ? q.last : NONE;
+}
+
+/* The sets with one flagged cell at a position, by the verticals. */
+static void ones(uint8_t *restrict out, uint8_t *restrict syn, size_t l, const uint32_t *words, const uint32_t *near)
+{
+    for (size_t m = 0, end; m < l; m = end) {
+        uint8_t marks[ALL];
+        end = run_end(words, near, m, l);
+        if (words[m] == 0)
+            continue;
+        marks_of(words[m], marks);
+        size_t a = one_track(marks, 0), b = one_track(marks, 1);
+        for (size_t p = m; p < end; p++) {
+            by_vertical(out, syn, l, 0, a, p);
+            by_vertical(out, syn, l, 1, b, p);
+        }
+    }
+}
+
+static size_t if_marked(const uint8_t *marks, size_t s, size_t t)
+{
+    return t < TRACKS && marks[track_number(s, t)] == 1 ? t : NONE;
+}
+
+/* The window's plan without the tracks that are not flagged at the position; of one flagged cell nothing is left to do. */
+static plan plan_at(const uint8_t *marks, const uint8_t *near, size_t s)
+{
+    if (is_single(make_plan(marks, s)))
+        return (plan){NONE, NONE, NONE};
+    plan q = make_plan(near, s);
+    return (plan){if_marked(marks, s, q.low), if_marked(marks, s, q.high), if_marked(marks, s, q.last)};
+}
+
+static void data_run(uint8_t *restrict out, uint8_t *restrict syn, size_t l, plan a, plan b, size_t from, size_t to)
+{
+    line a_low = find_line(out, syn, l, 0, a.low), a_high = find_line(out, syn, l, 0, a.high), a_last = find_line(out, syn, l, 0, a.last);
+    line b_low = find_line(out, syn, l, 1, b.low), b_high = find_line(out, syn, l, 1, b.high), b_last = find_line(out, syn, l, 1, b.last);
+    for (size_t m = from; m < to; m++) {
+        low_at(a_low, a.low, m);
+        high_at(a_high, a.high, m);
+        last_at(a_last, a.last, m);
+        low_at(b_low, b.low, m);
+        high_at(b_high, b.high, m);
+        last_at(b_last, b.last, m);
+    }
+}
+
+/* The positions of the data or of the tail, run by run. */
+static void solve_part(uint8_t *restrict out, uint8_t *restrict syn, size_t l, const uint32_t *words, const uint32_t *near, size_t from,
+                       size_t to)
+{
+    for (size_t m = from, end; m < to; m = end) {
+        uint8_t marks[ALL], wide[ALL];
+        end = run_end(words, near, m, to);
+        if (words[m] == 0)
+            continue;
+        marks_of(words[m], marks);
+        marks_of(near[m], wide);
+        plan a = plan_at(marks, wide, 0), b = plan_at(marks, wide, 1);
+        if (m < l - LAG)
+            data_run(out, syn, l, a, b, m, end);
+        else
+            for (size_t p = m; p < end; p++) {
+                tail_step(out, syn, l, 0, a, p);
+                tail_step(out, syn, l, 1, b, p);
+            }
+    }
+}
+
+axp_result plain_repair_spans(uint32_t blocks, const axp_span *spans, size_t spans_len, const uint8_t *restrict image, size_t image_len,
+                              uint8_t *restrict out, size_t out_len)
+{
+    uint8_t marks[ALL], syn[ROOM];
+    uint32_t words[TRACK] = {0}, near[TRACK], all = 0;
+    bool lost;
+    axp_result r = check_image(blocks, image, image_len, out_len, AXP_IMAGE_SIZE(blocks), READINGS, &lost);
+    if (r.answer)
+        return r;
+    if (!is_right(spans, spans_len, image_len))
+        return answer(9, 0);
+    size_t l = AXP_TRACK_LENGTH(blocks);
+    flag_pairs(spans, spans_len, l, words);
+    if (lost)
+        flag_lost(image, l, words);
+    if (!find_windows(words, near, l))
+        return answer(6, 0);
+    copy_known(out, image, image_len, lost);
+    syndromes(out, l, syn);
+    ones(out, syn, l, words, near);
+    solve_part(out, syn, l, words, near, 0, l - LAG);
+    solve_part(out, syn, l, words, near, l - LAG, l);
+    if (is_good(out, syn, l)) {
+        for (size_t m = 0; m < l; m++)
+            all |= words[m];
+        marks_of(all, marks);
+        return answer_of(marks, image, out, l, 0, 0);
+    }
+    memcpy(out, image, image_len);
+    return answer(7, 0);
+}

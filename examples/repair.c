@@ -2,10 +2,11 @@
  * Repairs one image: the README's example.
  *
  *     repair BLOCKS FLAGS IMAGE [OUT]
+ *     repair BLOCKS @TABLE IMAGE [OUT]
  *
  * BLOCKS and FLAGS are decimal numbers, IMAGE a file of one byte a cell. The program repairs by the flags, traces where
  * that finds no record, says what was changed, prints the payload as text and, where OUT is named, writes the repaired
- * image there.
+ * image there. TABLE is a file of flagged stretches, an offset and a length a line: then it repairs by these.
  */
 #include <axp.h>
 
@@ -13,6 +14,7 @@
 #include <stdlib.h>
 
 static uint8_t image[AXP_MAX_IMAGE_SIZE + 1], out[AXP_MAX_IMAGE_SIZE], payload[AXP_MAX_PAYLOAD_SIZE];
+static axp_span spans[AXP_MAX_SPANS + 1];
 
 static void show(const char *call, axp_result r)
 {
@@ -38,17 +40,42 @@ static int number(const char *text, uint32_t *value)
     return *text >= '0' && *text <= '9' && *end == '\0' && n <= UINT32_MAX;
 }
 
+/* The pairs of a file, or -1. Of more than a table may have, one more is read. */
+static int table(const char *path)
+{
+    unsigned long offset, length;
+    int count = 0, fields = 2;
+    FILE *file = fopen(path, "r");
+    if (!file) {
+        perror(path);
+        return -1;
+    }
+    while (count <= AXP_MAX_SPANS && (fields = fscanf(file, "%lu%lu", &offset, &length)) == 2 && offset <= UINT32_MAX && length <= UINT32_MAX) {
+        spans[count].offset = (uint32_t)offset;
+        spans[count++].length = (uint32_t)length;
+    }
+    fclose(file);
+    if (count <= AXP_MAX_SPANS && fields != EOF) {
+        fprintf(stderr, "%s: pair %d is not two numbers\n", path, count + 1);
+        return -1;
+    }
+    return count;
+}
+
 int main(int argc, char **argv)
 {
-    uint32_t blocks, flags;
+    uint32_t blocks, flags = 0;
     size_t length, i;
+    int pairs = 0, by_table = argc > 2 && argv[2][0] == '@';
     axp_result r;
     FILE *file;
 
-    if (argc < 4 || !number(argv[1], &blocks) || !number(argv[2], &flags)) {
-        fprintf(stderr, "usage: repair BLOCKS FLAGS IMAGE [OUT]\n");
+    if (argc < 4 || !number(argv[1], &blocks) || !(by_table || number(argv[2], &flags))) {
+        fprintf(stderr, "usage: repair BLOCKS FLAGS|@TABLE IMAGE [OUT]\n");
         return 2;
     }
+    if (by_table && (pairs = table(argv[2] + 1)) < 0)
+        return 2;
     file = fopen(argv[3], "rb");
     if (!file) {
         perror(argv[3]);
@@ -57,9 +84,12 @@ int main(int argc, char **argv)
     length = fread(image, 1, sizeof image, file);
     fclose(file);
 
-    r = axp_repair(blocks, flags, image, length, out, sizeof out);
+    if (by_table)
+        r = axp_repair_spans(blocks, spans, (size_t)pairs, image, length, out, sizeof out);
+    else
+        r = axp_repair(blocks, flags, image, length, out, sizeof out);
     show("repair", r);
-    if (r.answer == AXP_NO_RECORD) {
+    if (r.answer == AXP_NO_RECORD && !by_table) {
         r = axp_trace(blocks, flags, image, length, out, sizeof out);
         show("trace", r);
     }

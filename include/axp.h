@@ -1,15 +1,15 @@
 /*
  * axp.h - repair of 18-track cartridge records in the adaptive cross-parity code
  *
- * Six calls on numbers and byte slices: an encoder, a reader of good records, a repairer for flagged
- * tracks, a tracer for unflagged ones, and two calls that turn an image to its packed form and back.
- * Each call always returns, allocates nothing, keeps no state between calls and reads and writes
+ * Seven calls on numbers and slices: an encoder, a reader of good records, a repairer for flagged
+ * tracks, a tracer for unflagged ones, a repairer for flagged stretches of cells, and two calls that
+ * turn an image to its packed form and back. Each call always returns, allocates nothing, keeps no state between calls and reads and writes
  * nothing but the slices that it is given, so it may be called from any number of threads at once.
  *
  * What a call answers and every byte that it leaves in the output are fixed by the project's
  * documents 01 and 02 and proved of the code behind axp_encode, axp_read, axp_repair, axp_trace,
- * axp_pack and axp_unpack. The static inline functions of this header are conveniences and no proved
- * code.
+ * axp_repair_spans, axp_pack and axp_unpack. The static inline functions of this header are
+ * conveniences and no proved code.
  *
  * A record has n blocks, n from 0 to 256, and 18 tracks of L = 8n + 15 cells: tracks 0 to 8 of set A,
  * then tracks 0 to 8 of set B. Its image is 18 * L bytes, one cell a byte, value 0 or 1; track number
@@ -20,8 +20,9 @@
  * 36 bytes packed. Its only good record is all zero. Every call takes it as it takes the others.
  *
  * A cell that a drive could not read is marked with 2 (AXP_LOST). Repairer and tracer take the track of
- * a lost cell as flagged, as if its bit of the flag word were set, and fill the cell; the reader takes
- * an image with a lost cell as not good; a lost cell cannot be packed.
+ * a lost cell as flagged, as if its bit of the flag word were set, and fill the cell; axp_repair_spans
+ * takes the lost cell alone as flagged, not its track; the reader takes an image with a lost cell as not
+ * good; a lost cell cannot be packed.
  *
  * An image's packed form is 18 * (n + 2) bytes, its tracks in head order, A0, B0, A1, B1, to A8, B8:
  * track t of A begins at byte 2t * (n + 2), track t of B at byte (2t + 1) * (n + 2). A track takes
@@ -44,8 +45,8 @@ extern "C" {
 
 /* The version of this header and of the library that it was made for. */
 #define AXP_VERSION_MAJOR 0
-#define AXP_VERSION_MINOR 4
-#define AXP_VERSION_PATCH 1
+#define AXP_VERSION_MINOR 5
+#define AXP_VERSION_PATCH 0
 
 /* The most blocks of a record. */
 #define AXP_MAX_BLOCKS 256
@@ -67,13 +68,17 @@ extern "C" {
 /* A cell that the drive could not read. */
 #define AXP_LOST 2
 
+/* The most pairs of a table of spans. */
+#define AXP_MAX_SPANS 64
+
 /* `extra_a` or `extra_b` where no extra track is named. */
 #define AXP_NO_EXTRA 4294967295u
 
 /*
  * The answers, in checking order: the first whose condition holds is given, and AXP_OK where none
- * does. The encoder gives AXP_OK and 1 to 3, the reader AXP_OK, 1 to 4 and 7, repairer and tracer
- * AXP_OK and 1 to 7, packing AXP_OK and 1 to 4, unpacking AXP_OK, 1 to 3 and 8.
+ * does; axp_repair_spans checks 9 in place of 5, after 4 and before 6. The encoder gives AXP_OK and 1 to
+ * 3, the reader AXP_OK, 1 to 4 and 7, repairer and tracer AXP_OK and 1 to 7, axp_repair_spans AXP_OK, 1
+ * to 4, 9, 6 and 7, packing AXP_OK and 1 to 4, unpacking AXP_OK, 1 to 3 and 8.
  */
 enum axp_answer {
     AXP_OK = 0,          /* the result fills the first bytes of the output; later bytes stay */
@@ -82,14 +87,16 @@ enum axp_answer {
                             (unpacking) or an image (the others) of that block count */
     AXP_OUTPUT_SHORT = 3,/* the output is shorter than a payload (reader), a packed form (packing) or an
                             image (the others) of that block count */
-    AXP_CELL_VALUE = 4,  /* the image has a cell above 2 (reader, repairer, tracer) or above 1
-                            (packing), in a flagged track or not; `detail` is the index of the first
-                            one */
+    AXP_CELL_VALUE = 4,  /* the image has a cell above 2 (reader, repairers, tracer) or above 1
+                            (packing), flagged or not; `detail` is the index of the first one */
     AXP_FLAG_BIT = 5,    /* the flag word has a bit from 18 up */
     AXP_TOO_MANY = 6,    /* more flagged tracks, with those that have a lost cell, than the code can
-                            repair: more than three in a set, or more than four in all */
+                            repair: more than three in a set, or more than four in all; for
+                            axp_repair_spans: so many tracks with a flagged cell within 16 positions */
     AXP_NO_RECORD = 7,   /* no good record is in reach; for the reader: the image is not good */
-    AXP_PADDING = 8      /* a padding bit of the packed form is 1 */
+    AXP_PADDING = 8,     /* a padding bit of the packed form is 1 */
+    AXP_SPANS = 9        /* the table of spans has more than 64 pairs, a length 0, a pair beyond the
+                            image, or an offset before the previous pair's end */
 };
 
 /*
@@ -97,9 +104,9 @@ enum axp_answer {
  *
  * answer   0 or a number of enum axp_answer.
  * detail   with AXP_CELL_VALUE the index of the first bad cell in the image, else 0.
- * mask     from repair and tracing with answer 0: bit g is set exactly if some cell of track number g
+ * mask     from the repairers and tracing with answer 0: bit g is set exactly if some cell of track number g
  *          differs between output and image. Else 0.
- * cells    from repair and tracing with answer 0: the number of cells that differ. Else 0. A lost cell
+ * cells    from the repairers and tracing with answer 0: the number of cells that differ. Else 0. A lost cell
  *          is 2 in the image and 0 or 1 in the output: it differs, whichever it becomes.
  * extra_a, from tracing with answer 0: the track number (0 to 8 in A, 9 to 17 in B) of the changed
  * extra_b  track of the set that was not flagged and has no lost cell, or AXP_NO_EXTRA where there is
@@ -115,14 +122,23 @@ typedef struct axp_result {
 } axp_result;
 
 /*
+ * A pair of a table: `length` cells of the image, one after the other, from cell `offset` on. Cell m of
+ * track number g is cell g * L + m, so a pair may run from the end of one track into the next.
+ */
+typedef struct axp_span {
+    uint32_t offset;
+    uint32_t length;
+} axp_span;
+
+/*
  * All calls
  *
  * The caller sees to it that each pointer is valid for its length (a null pointer may stand with
  * length 0), that input and output do not overlap, and that no other thread writes to either during
- * the call. Nothing else is presumed: every block count, length, cell value and flag word has an
+ * the call. Nothing else is presumed: every block count, length, cell value, flag word and table has an
  * answer.
  *
- * Answers 1 to 6 and 8 leave the output as it came. Bytes of the output past the result stay as they
+ * Answers 1 to 6, 8 and 9 leave the output as it came. Bytes of the output past the result stay as they
  * came with every answer.
  */
 
@@ -184,6 +200,31 @@ axp_result axp_repair(uint32_t blocks, uint32_t flags, const uint8_t *image, siz
 axp_result axp_trace(uint32_t blocks, uint32_t flags, const uint8_t *image, size_t image_len, uint8_t *out, size_t out_len);
 
 /*
+ * Repairs the flagged cells of an image, where a drive distrusted tracks for a while only.
+ *
+ * The flagged cells are those in a pair of the table, and the lost cells, each of these by itself: here
+ * a lost cell does not flag its track. A table is in order: at most AXP_MAX_SPANS pairs, none of length
+ * 0, none beyond the image's AXP_IMAGE_SIZE(blocks) cells, each beginning where the one before it ended
+ * or later. Offsets and lengths up to 4294967295 are added without overflow. At every position m from 0
+ * to L - 1, the tracks with a flagged cell in positions m to m + 15, or to L - 1 where that is sooner,
+ * are to be at most three in a set and four in all.
+ *
+ * spans    spans_len pairs, not bytes; of an empty table it may be a null pointer. Of more than
+ *          AXP_MAX_SPANS pairs the first 65 at the most are read.
+ * image    AXP_IMAGE_SIZE(blocks) bytes, each 0, 1 or AXP_LOST, flagged or not.
+ * out      with answer 0 its first AXP_IMAGE_SIZE(blocks) bytes are the one good record that equals
+ *          the image on every cell that is not flagged; there is no other. With AXP_NO_RECORD, given
+ *          exactly if there is no such record, they are a copy of the image, its lost cells among them.
+ *
+ * Where the flagged cells are those of whole tracks, the call answers and writes what axp_repair does
+ * for the flags of these tracks. No extra is named.
+ *
+ * Answers: AXP_OK, AXP_BLOCK_COUNT, AXP_INPUT_LENGTH, AXP_OUTPUT_SHORT, AXP_CELL_VALUE, AXP_SPANS,
+ * AXP_TOO_MANY, AXP_NO_RECORD, the numbers checked in this order.
+ */
+axp_result axp_repair_spans(uint32_t blocks, const axp_span *spans, size_t spans_len, const uint8_t *image, size_t image_len, uint8_t *out, size_t out_len);
+
+/*
  * Packs an image, good record or not.
  *
  * image    AXP_IMAGE_SIZE(blocks) bytes, each 0 or 1: AXP_LOST has no packed form and is AXP_CELL_VALUE.
@@ -229,6 +270,7 @@ static inline const char *axp_strerror(uint32_t answer)
     case AXP_TOO_MANY: return "too many flagged tracks";
     case AXP_NO_RECORD: return "no good record is in reach";
     case AXP_PADDING: return "a padding bit is 1";
+    case AXP_SPANS: return "the table of spans is out of order";
     default: return "unknown answer";
     }
 }

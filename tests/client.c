@@ -115,6 +115,89 @@ static void lost(uint32_t n, const uint8_t *image)
     expect(is_filled(out, 0, sizeof out, 0x55) && is_filled(bytes, 0, sizeof bytes, 0xaa), "outputs of refused lost cells");
 }
 
+/* A record whose tracks were distrusted for a while: pairs that touch and one that runs into the next track, then lost cells beside
+ * them, then tables that are refused. */
+static void stretches(uint32_t n, const uint8_t *image)
+{
+    static uint8_t cells[AXP_MAX_IMAGE_SIZE], out[AXP_MAX_IMAGE_SIZE + 8], tracks[AXP_MAX_IMAGE_SIZE];
+    static axp_span many[AXP_MAX_SPANS + 1];
+    uint32_t l = (uint32_t)AXP_TRACK_LENGTH(n), size = (uint32_t)AXP_IMAGE_SIZE(n), i;
+    uint32_t flags = axp_flag_a(1) | axp_flag_a(2) | axp_flag_b(4);
+    axp_span spans[4];
+    spans[0].offset = 2 * l - 3; /* the end of A1 and the start of A2 */
+    spans[0].length = 7;
+    spans[1].offset = 2 * l + 4; /* and on in A2 */
+    spans[1].length = 5;
+    spans[2].offset = 13 * l;    /* all of B4 */
+    spans[2].length = l;
+    spans[3].offset = size - 1;  /* the last cell of B8 */
+    spans[3].length = 1;
+    memcpy(cells, image, size);
+    for (i = 0; i < 4; i++) {
+        uint32_t k;
+        for (k = 0; k < spans[i].length; k++)
+            cells[spans[i].offset + k] ^= 1;
+    }
+    memset(out, 0x55, sizeof out);
+    expect(is_found(axp_repair_spans(n, spans, 4, cells, size, out, sizeof out), flags | axp_flag_b(8), l + 13, AXP_NO_EXTRA, AXP_NO_EXTRA) && memcmp(out, image, size) == 0, "repair of stretches");
+    expect(is_filled(out, size, sizeof out, 0x55), "bytes past the image of stretches");
+    expect(is_plain(axp_repair_spans(n, spans, 3, cells, size, out, size), AXP_NO_RECORD, 0) && memcmp(out, cells, size) == 0, "stretches to 7");
+    cells[size - 1] = AXP_LOST; /* a lost cell flags itself */
+    cells[2 * l + 2] = AXP_LOST;
+    expect(is_found(axp_repair_spans(n, spans, 3, cells, size, out, size), flags | axp_flag_b(8), l + 13, AXP_NO_EXTRA, AXP_NO_EXTRA) && memcmp(out, image, size) == 0, "lost cells beside stretches");
+
+    /* Whole tracks are repaired as by their flags. */
+    memcpy(cells, image, size);
+    for (i = 0; i < l; i++)
+        cells[3 * l + i] = cells[4 * l + i] = (uint8_t)(i % 2);
+    spans[0].offset = 3 * l;
+    spans[0].length = 2 * l;
+    memcpy(tracks, cells, size);
+    {
+        axp_result by_cells = axp_repair_spans(n, spans, 1, cells, size, out, size);
+        axp_result by_tracks = axp_repair(n, axp_flag_a(3) | axp_flag_a(4), cells, size, tracks, size);
+        expect(by_tracks.answer == AXP_OK && is_found(by_cells, by_tracks.mask, by_tracks.cells, AXP_NO_EXTRA, AXP_NO_EXTRA) && memcmp(out, tracks, size) == 0, "whole tracks as stretches");
+    }
+    /* No table: a good record stays, a lost cell is filled. */
+    expect(is_plain(axp_repair_spans(n, NULL, 0, image, size, out, size), AXP_OK, 0) && memcmp(out, image, size) == 0, "no stretches");
+    memcpy(cells, image, size);
+    cells[5] = AXP_LOST;
+    expect(is_found(axp_repair_spans(n, NULL, 0, cells, size, out, size), 1, 1, AXP_NO_EXTRA, AXP_NO_EXTRA) && memcmp(out, image, size) == 0, "a lost cell without stretches");
+
+    /* Tables out of order, which leave the output as it came. */
+    memset(out, 0x55, sizeof out);
+    for (i = 0; i <= AXP_MAX_SPANS; i++) {
+        many[i].offset = 4 * i;
+        many[i].length = 1;
+    }
+    expect(is_plain(axp_repair_spans(n, many, AXP_MAX_SPANS + 1, image, size, out, size), AXP_SPANS, 0), "65 pairs");
+    spans[0].length = 0;
+    expect(is_plain(axp_repair_spans(n, spans, 1, image, size, out, size), AXP_SPANS, 0), "a pair of no cells");
+    spans[0].offset = size - 1;
+    spans[0].length = 2;
+    expect(is_plain(axp_repair_spans(n, spans, 1, image, size, out, size), AXP_SPANS, 0), "a pair beyond the image");
+    spans[0].offset = spans[0].length = 4294967295u;
+    expect(is_plain(axp_repair_spans(n, spans, 1, image, size, out, size), AXP_SPANS, 0), "a pair far beyond the image");
+    spans[0].offset = 2;
+    spans[0].length = 4294967295u;
+    expect(is_plain(axp_repair_spans(n, spans, 1, image, size, out, size), AXP_SPANS, 0), "a pair that ends where 32 bits wrap");
+    spans[0].offset = 10;
+    spans[0].length = 3;
+    spans[1].offset = 12;
+    spans[1].length = 1;
+    expect(is_plain(axp_repair_spans(n, spans, 2, image, size, out, size), AXP_SPANS, 0), "pairs that overlap");
+    spans[1].offset = 9;
+    expect(is_plain(axp_repair_spans(n, spans, 2, image, size, out, size), AXP_SPANS, 0), "pairs out of order");
+    spans[0].offset = 0;
+    spans[0].length = 4 * l;
+    expect(is_plain(axp_repair_spans(n, spans, 1, image, size, out, size), AXP_TOO_MANY, 0), "four tracks of a set as a stretch");
+    expect(is_plain(axp_repair_spans(n, spans, 1, image, size, out, size - 1), AXP_OUTPUT_SHORT, 0), "stretches to a short output");
+    expect(is_plain(axp_repair_spans(n, spans, 1, image, size - 1, out, size), AXP_INPUT_LENGTH, 0), "stretches of a cell less");
+    cells[7] = AXP_LOST + 1;
+    expect(is_plain(axp_repair_spans(n, many, AXP_MAX_SPANS + 1, cells, size, out, size), AXP_CELL_VALUE, 7), "a 3 before 65 pairs");
+    expect(is_filled(out, 0, sizeof out, 0x55), "output of refused stretches");
+}
+
 static void one(uint32_t n)
 {
     static uint8_t payload[AXP_MAX_PAYLOAD_SIZE], back[AXP_MAX_PAYLOAD_SIZE + 8];
@@ -130,6 +213,7 @@ static void one(uint32_t n)
     expect(r.answer == AXP_OK && memcmp(back, payload, bytes) == 0 && back[bytes] == 0xaa, "read");
     packing(n, image);
     lost(n, image);
+    stretches(n, image);
     memcpy(damaged, image, size);
     for (i = 0; i < l; i++) {
         damaged[1 * l + i] ^= i % 3 == 0;
@@ -241,6 +325,7 @@ static void block_counts(void)
         expect(is_plain(axp_read(n, NULL, 0, NULL, 0), AXP_BLOCK_COUNT, 0), "read too many blocks");
         expect(is_plain(axp_repair(n, 0, NULL, 0, NULL, 0), AXP_BLOCK_COUNT, 0), "repair too many blocks");
         expect(is_plain(axp_trace(n, 0, NULL, 0, NULL, 0), AXP_BLOCK_COUNT, 0), "trace too many blocks");
+        expect(is_plain(axp_repair_spans(n, NULL, 0, NULL, 0, NULL, 0), AXP_BLOCK_COUNT, 0), "stretches of too many blocks");
         expect(is_plain(axp_pack(n, NULL, 0, NULL, 0), AXP_BLOCK_COUNT, 0), "pack too many blocks");
         expect(is_plain(axp_unpack(n, NULL, 0, NULL, 0), AXP_BLOCK_COUNT, 0), "unpack too many blocks");
     }
@@ -258,7 +343,9 @@ int main(void)
     flags();
     expect(axp_repair(1, 0, NULL, 0, NULL, 0).answer == AXP_INPUT_LENGTH, "no image");
     expect(strcmp(axp_strerror(AXP_PADDING), "a padding bit is 1") == 0, "text of an answer");
+    expect(strcmp(axp_strerror(AXP_SPANS), "the table of spans is out of order") == 0, "text of a table");
     expect(sizeof(axp_result) == 24, "size of axp_result");
+    expect(sizeof(axp_span) == 8, "size of axp_span");
     printf("client: %s\n", failures ? "FAILED" : "ok");
     return failures != 0;
 }

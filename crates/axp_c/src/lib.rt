@@ -1,8 +1,10 @@
-// The library for C: numbers and byte slices in, a struct of numbers out. include/axp.h declares these calls.
+// The library for C: numbers, byte slices and a table of spans in, a struct of numbers out. include/axp.h declares these calls.
 use code::Answer;
 use code::Extra;
+use code::Span;
 ghost use mathlib.Core.Path.{_≡_};
-ghost use Rattle.code.specs.Contracts.{Encoded, WasRead, Repaired, Traced, WasPacked, WasUnpacked};
+ghost use Rattle.code.specs.Contracts.{Encoded, WasRead, Repaired, Traced, SpansRepaired, WasPacked, WasUnpacked};
+ghost use Rattle.code.specs.Spans.{table-of};
 ghost use Rattle.code.specs.Answers.{extra-of, result-of};
 ghost use Rattle.code.proofs.Extras.{Numbered, ExtrasNumbered};
 ghost use Rattle.axp_c.specs.Result.{c-extra, c-result};
@@ -79,6 +81,19 @@ pub extern "C" fn axp_trace(blocks: u32, flags: u32, image: &[u8], out: &mut [u8
     ensures { λ r. ⌜ Traced blocks flags (now (image .entry)) (now (out .entry)) (c-result r) (now (out .exit)) ⌝ }
 {
     for_c(repair::trace(blocks, flags, image, out))
+}
+
+// Repairer with flags by stretch. C's axp_span is code's Span.
+#[no_mangle]
+pub extern "C" fn axp_repair_spans(
+    blocks: u32,
+    spans: &[Span],
+    image: &[u8],
+    out: &mut [u8],
+) -> AxpResult
+    ensures { λ r. ⌜ SpansRepaired blocks (table-of (now (spans .entry))) (now (image .entry)) (now (out .entry)) (c-result r) (now (out .exit)) ⌝ }
+{
+    for_c(spans::repair_spans(blocks, spans, image, out))
 }
 
 // Packing.

@@ -52,3 +52,7 @@ values-numbered sh f allowed image r after v = record { in-a = of A; in-b = of B
   where
     of : (s : TrackSet) → Numbered (all-tracks sh) (extra-in r s)
     of s = record { below = λ g e. let o = v .named s g e in omega (arith, number-lt sh s (o .track) (o .inside), o .number) }
+
+-- A call that names none.
+pub unnamed-numbered : (all : ℕ) (r : Result) → ((s : TrackSet) → extra-in r s ≡ none) → ExtrasNumbered all r
+unnamed-numbered all r h = record { in-a = rw (h A) (numbered-none all); in-b = rw (h B) (numbered-none all) }

@@ -3,7 +3,7 @@ use mathlib.Core.Path.{_≡_, sym, ap, _∙_}
 use mathlib.Core.List.{List, _++_}
 use Prim.Native.Nat.{ℕ, _+_, _-_, _<_, _≤_}
 use native.Mathlib.Omega.{arith}
-use lib.ListN.{length, getD, drop, length-append, length-drop, List·getD-append}
+use lib.ListN.{length, getD, drop, length-append, length-drop, List·getD-append, List·getD-eq-default}
 use lib.Seq.{getD-append-add, getD-drop}
 use Rattle.code.specs.Record.{Shape, Same}
 use Rattle.code.specs.Image.{image-size, cells}
@@ -31,3 +31,10 @@ module _ (size : ℕ) (before result : List ℕ) (whole : length result ≡ size
 pub front-same : (sh : Shape) (before image : List ℕ) → length image ≡ image-size sh → image-size sh ≤ length before →
     Same sh (cells sh image) (cells sh (image ++ drop (image-size sh) before))
 front-same sh before image whole room = record { cell = λ s t m l b. sym (front-at (image-size sh) before image whole room _ (cell-lt sh s t m l b)) }
+
+-- Two outputs of the result's size have no later bytes.
+pub stays-all : (n : ℕ) (before after : List ℕ) → length before ≡ n → length after ≡ n → Stays n before after
+stays-all n before after a b = record {
+  lengths = b ∙ sym a;
+  later = λ i h. List·getD-eq-default after 0 {n = i} (omega arith) ∙ sym (List·getD-eq-default before 0 {n = i} (omega arith));
+}

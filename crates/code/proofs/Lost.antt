@@ -11,23 +11,18 @@ use lib.ListN.{length}
 use Rattle.code.specs.Record.{TrackSet, Shape, base, tracks, track-length}
 use Rattle.code.specs.Image.{image-size, cells}
 use Rattle.code.specs.Payload.{payload-size}
-use Rattle.code.specs.Flags.{TrackFlags, whole, word-flags, bit, flag-count, any}
+use Rattle.code.specs.Flags.{TrackFlags, whole, word-flags, bit, flag-count}
 use Rattle.code.specs.Lost.{bit-values, read-values, is-lost, with-lost}
 use Rattle.code.specs.Reach.{flags-code}
 use Rattle.code.specs.Numbers.{Check, first-bad, size-checks, flag-check, reach-check}
 use Rattle.code.specs.Calls.{Answered, ReadOrNot, Repairs, Traces}
 use Rattle.code.specs.Contracts.{call-flags}
 use Rattle.code.specs.Supply.{AsBefore, NoneLost}
+use Rattle.code.proofs.Any.{any-none}
 use Rattle.code.proofs.Patterns.{none-flagged, neither}
 use Rattle.code.proofs.Sums.{sum-le}
 
 -- ## Tracks with a lost cell
-
--- Where none is flagged, there is none in a window.
-pub any-none : (w : ℕ) (f : ℕ → Bool) → ((k : ℕ) → k < w → f k ≡ false) → any w f ≡ false
-unfolding any
-any-none zero f h = refl
-any-none (suc w) f h = rw (any-none w f (λ k l. h k (omega arith))) (h w (omega arith))
 
 module _ (sh : Shape) (f : TrackFlags) (image : List ℕ) where
   -- A track that widened flags leave clear has no lost cell.

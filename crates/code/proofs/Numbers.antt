@@ -79,6 +79,17 @@ first-append [] ds right rest f = f
 first-append (c ∷ cs) ds right rest (inl a) = inl a
 first-append (c ∷ cs) ds right rest (inr a) = inr (a .0, first-append cs ds right rest (a .1))
 
+pub first-join : (cs ds : List {1} Check) (right : Check → Type 0) (rest : Type 0) → First cs right (First ds right rest) → First (cs ++ ds) right rest
+first-join [] ds right rest f = f
+first-join (c ∷ cs) ds right rest (inl a) = inl a
+first-join (c ∷ cs) ds right rest (inr a) = inr (a .0, first-join cs ds right rest (a .1))
+
+-- Past the same checks, another rest.
+pub first-map : (cs : List {1} Check) (right : Check → Type 0) (rest rest′ : Type 0) → (rest → rest′) → First cs right rest → First cs right rest′
+first-map [] right rest rest′ h f = h f
+first-map (c ∷ cs) right rest rest′ h (inl a) = inl a
+first-map (c ∷ cs) right rest rest′ h (inr a) = inr (a .0, first-map cs right rest rest′ h (a .1))
+
 -- Past the first list, the second says what is right.
 pub first-after : (cs ds : List {1} Check) (right : Check → Type 0) (rest : Type 0) → Passed cs → First ds right rest → First (cs ++ ds) right rest
 first-after [] ds right rest p f = f

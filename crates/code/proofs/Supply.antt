@@ -1,7 +1,7 @@
 -- The supply: whatever the contracts allow has the three points, and returns what the documents say. That packing and unpacking undo
 -- each other is in proofs/Undoing.
 use mathlib.Core.Path.{_≡_, refl, sym, ap}
-use mathlib.Core.Logic.{inl, inr, ⊎-elim, _↔_}
+use mathlib.Core.Logic.{inl, inr, ⊎-elim, _≢_, _↔_}
 use mathlib.Core.List.{List, [], _∷_}
 use Prim.Native.Nat.{ℕ, _<_, _≤_}
 use native.Mathlib.Omega.{arith}
@@ -10,9 +10,10 @@ use Rattle.code.specs.Record.{base}
 use Rattle.code.specs.Image.{image-size}
 use Rattle.code.specs.Payload.{payload-size}
 use Rattle.code.specs.Lost.{bit-values, read-values}
-use Rattle.code.specs.Reach.{flags-code}
+use Rattle.code.specs.Reach.{flags-code, none}
+use Rattle.code.specs.Spans.{span-flags}
 use Rattle.code.specs.Packed.{packed-size}
-use Rattle.code.specs.Numbers.{count-check, room-check, flag-check, reach-check, padding-check, input-checks, size-checks, image-checks}
+use Rattle.code.specs.Numbers.{count-check, room-check, flag-check, reach-check, padding-check, table-check, window-check, input-checks, size-checks, image-checks}
 use Rattle.code.specs.Calls.{
   Result,
   plain,
@@ -23,6 +24,9 @@ use Rattle.code.specs.Calls.{
   ReadOrNot,
   early-checks,
   repair-checks,
+  RepairNear,
+  Repairs,
+  span-checks,
   pack-checks,
   Packs,
   unpack-checks,
@@ -38,6 +42,7 @@ use Rattle.code.specs.Supply.{
   encode,
   read,
   mend,
+  mend-spans,
   pack,
   unpack,
   Right,
@@ -54,10 +59,11 @@ use Rattle.code.specs.Supply.{
 }
 use Rattle.code.proofs.Answering.{Leaves, Refusal, refusal, sizes, images, plain-leaves, read-leaves, mend-leaves}
 use Rattle.code.proofs.Determined.{Equal, encode-determined, read-determined, pack-determined, unpack-determined}
-use Rattle.code.proofs.Extras.{ExtrasNumbered, plain-answers-numbered, read-numbered, values-numbered}
+use Rattle.code.proofs.Extras.{ExtrasNumbered, plain-answers-numbered, read-numbered, values-numbered, unnamed-numbered}
 use Rattle.code.proofs.Mending.{names-by, Mends, mending-fixed, mending-demanded, mending-values}
 use Rattle.code.proofs.Numbers.{passed-exact, passed-both, answer-of, each-append, later, first-given}
 use Rattle.code.proofs.RoundTrip.{round-trip}
+use Rattle.code.proofs.Stretches.{spans-fixed, span-values}
 
 -- ## The contracts
 
@@ -76,6 +82,7 @@ determined (read n image before) r other after bytes c d =
 determined (mend way n flags image before) r other after bytes c d =
     mending-fixed way (base n) refl (call-flags n flags image) (early-checks read-values (base n) n flags image (length before)) image before r after
     (mends way n flags image before r after c) other bytes (mends way n flags image before other bytes d)
+determined (mend-spans n table image before) r other after bytes c d = spans-fixed n table image before r other after bytes c d
 determined (pack n image before) r other after bytes c d = pack-determined n (pack-checks n image before) before other r bytes after image d c
 determined (unpack n packed before) r other after bytes c d = unpack-determined n (unpack-checks n packed before) before other r bytes after packed d c
 
@@ -106,6 +113,18 @@ leaves (mend way n flags image before) r after =
     (images (OwnAnswer input) (LeftBy7 input) (image-size sh) before read-values n (image-size sh) image (image-size sh) (length before) (omega arith) (omega arith) (omega arith) (omega arith))
     (number 5 (omega arith), (number 6 (omega arith), tt)))
     (mends way n flags image before r after c)
+leaves (mend-spans n table image before) r after =
+    let sh = base n in
+    let flag = span-flags sh table image in
+    let input = mend-spans n table image before in
+    let number : (k : ℕ) → k ≤ 9 → k ≢ 7 → OwnAnswer input k → Leaves (OwnAnswer input) (LeftBy7 input) (image-size sh) before (plain k 0) before
+    = λ k l d o. refusal (OwnAnswer input) (LeftBy7 input) (image-size sh) before k 0 (omega arith) d o (λ e. refl) in
+    mend-leaves sh (OwnAnswer input) (span-checks read-values sh n table flag image before) before r after (RepairNear sh flag image) (λ _ _. none) image
+    (inl (omega arith, omega arith)) (inl (omega arith, omega arith))
+    (each-append (Refusal (OwnAnswer input) (LeftBy7 input) (image-size sh) before) (image-checks read-values n (image-size sh) image (image-size sh) (length before)) (table-check (image-size sh) table ∷ window-check sh flag ∷ [])
+    (images (OwnAnswer input) (LeftBy7 input) (image-size sh) before read-values n (image-size sh) image (image-size sh) (length before)
+    (inl (omega arith, omega arith)) (inl (omega arith, omega arith)) (inl (omega arith, omega arith)) (inl (omega arith, omega arith)))
+    (number 9 (omega arith) (omega arith) (inr refl), (number 6 (omega arith) (omega arith) (inl (omega arith, omega arith)), tt)))
 leaves (pack n image before) r after =
     let input = pack n image before in
     plain-leaves (base n) (OwnAnswer input) (pack-checks n image before) before r after (Packs n image before) (LeftBy7 input) (packed-size n) (omega arith)
@@ -148,6 +167,10 @@ number-1 (mend way n flags image before) r after =
     λ c. first-given (count-check n) (later (repair-checks read-values (base n) n flags f image before)) (Mends way (base n) (flags-code (base n) f) f image before) before r after (omega arith)
     (⊎-elim (λ a e. omega (arith, ap answer-of (a .result))) (λ a e. omega (arith, ap answer-of (a .result))))
     (mends way n flags image before r after c)
+number-1 (mend-spans n table image before) r after =
+    let flag = span-flags (base n) table image in
+    first-given (count-check n) (later (span-checks read-values (base n) n table flag image before)) (Repairs (base n) flag image before) before r after (omega arith)
+    (⊎-elim (λ a e. omega (arith, ap answer-of (a .result))) (λ a e. omega (arith, ap answer-of (a .result))))
 number-1 (pack n image before) r after =
     first-given (count-check n) (later (pack-checks n image before)) (Packs n image before) before r after (omega arith)
     (λ a e. omega (arith, ap answer-of (a .result)))
@@ -189,6 +212,7 @@ extras-numbered (encode n payload before) r after c =
     plain-answers-numbered (encode-checks (base n) n payload before) before r after 18 (Encodes (base n) n payload before) (λ a. a .result) c
 extras-numbered (read n image before) r after c = read-numbered (read-checks read-values (base n) n image before) before r after 18 (base n) n image c
 extras-numbered (mend way n flags image before) r after c = values-numbered (base n) _ _ image r after (values way n flags image before r after c)
+extras-numbered (mend-spans n table image before) r after c = unnamed-numbered 18 r (span-values n table image before r after c .unnamed)
 extras-numbered (pack n image before) r after c = plain-answers-numbered (pack-checks n image before) before r after 18 (Packs n image before) (λ a. a .result) c
 extras-numbered (unpack n packed before) r after c =
     plain-answers-numbered (unpack-checks n packed before) before r after 18 (Unpacks n packed before) (λ a. a .result) c

@@ -1,27 +1,12 @@
 -- Tests that antt computes, and what they show of a record.
-use mathlib.Core.Path.{_≡_, refl, ap₂, _∙_}
+use mathlib.Core.Path.{_≡_, ap₂, _∙_}
 use mathlib.Core.Logic.{by-cases}
-use mathlib.Core.Bool.{Bool, true, false, _&&_}
+use mathlib.Core.Bool.{Bool, true, _&&_}
 use Prim.Native.Nat.{ℕ, zero, suc, _+_, _-_, _<_, _≤_, _%_}
 use native.Mathlib.Decide.{ℕ-discrete}
 use native.Mathlib.Omega.{arith}
 use lib.Dec.{T, eqb, ltb, eqb→eq, ltb→lt}
-use Rattle.code.specs.Record.{
-  TrackSet,
-  A,
-  B,
-  Shape,
-  data-tracks,
-  tracks,
-  lag,
-  track-length,
-  vertical-end,
-  tail-tracks,
-  Cells,
-  diagonal,
-  vertical,
-  Good,
-}
+use Rattle.code.specs.Record.{TrackSet, A, B, Shape, tracks, lag, track-length, vertical-end, tail-tracks, Cells, diagonal, vertical, Good}
 use Rattle.code.proofs.Table.{and-left, and-right}
 
 -- f holds of all numbers below n.

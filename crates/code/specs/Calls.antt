@@ -14,11 +14,14 @@ use Rattle.code.specs.Flags.{TrackFlags, CellFlags, AgreeOff}
 use Rattle.code.specs.Lost.{bit-values}
 use Rattle.code.specs.Reach.{pick, Extra, none, extra, InReach}
 use Rattle.code.specs.Packed.{packed-size, PackedForm}
+use Rattle.code.specs.Spans.{Table}
 use Rattle.code.specs.Numbers.{
   Check,
   flag-check,
   reach-check,
   padding-check,
+  table-check,
+  window-check,
   input-checks,
   size-checks,
   image-checks,
@@ -179,6 +182,17 @@ trace-named sh f image after s = changed-extra sh f (cells sh image) (cells sh a
 
 abbrev pub Traces : Shape → ℕ → TrackFlags → List ℕ → List ℕ → Result → List ℕ → Type 0
 Traces sh code f image = Mended sh (TraceNear sh code f image) (trace-named sh f image) image
+
+-- ## Document 02, note 5: repair with flags by stretch
+
+-- 1 to 4, then 9, before the flags are counted.
+abbrev pub table-checks : ℕ → Shape → ℕ → Table → List ℕ → ℕ → List {1} Check
+table-checks values sh n table image room =
+    image-checks values n (image-size sh) image (image-size sh) room ++ (table-check (image-size sh) table ∷ [])
+
+-- Then 6, by which cells are flagged. Past it the call is `Repairs`, of those cells.
+abbrev pub span-checks : ℕ → Shape → ℕ → Table → CellFlags → List ℕ → List ℕ → List {1} Check
+span-checks values sh n table flag image before = table-checks values sh n table image (length before) ++ (window-check sh flag ∷ [])
 
 -- ## Track view
 

@@ -6,6 +6,7 @@ use Rattle.code.specs.Record.{base}
 use Rattle.code.specs.Flags.{TrackFlags, whole, word-flags}
 use Rattle.code.specs.Lost.{read-values, with-lost}
 use Rattle.code.specs.Reach.{flags-code}
+use Rattle.code.specs.Spans.{Table, span-flags}
 use Rattle.code.specs.Calls.{
   Result,
   Answered,
@@ -16,6 +17,7 @@ use Rattle.code.specs.Calls.{
   repair-checks,
   Repairs,
   Traces,
+  span-checks,
   view-checks,
   Shown,
   pack-checks,
@@ -55,6 +57,12 @@ Repaired n word image = RepairedBy read-values n word (call-flags n word image) 
 
 abbrev pub Traced : ℕ → ℕ → List ℕ → List ℕ → Result → List ℕ → Type 0
 Traced n word image = TracedBy read-values n word (call-flags n word image) image
+
+-- Repair with flags by stretch, of document 02, note 5: block count, table, image, output before, answer, output after.
+abbrev pub SpansRepaired : ℕ → Table → List ℕ → List ℕ → Result → List ℕ → Type 0
+SpansRepaired n table image before =
+    let flag = span-flags (base n) table image in
+    Answered (span-checks read-values (base n) n table flag image before) (Repairs (base n) flag image before) before
 
 -- Track view: block count, image, track number, the part handed over.
 abbrev pub Viewed : ℕ → List ℕ → ℕ → List ℕ → Type 0

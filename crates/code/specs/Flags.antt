@@ -3,7 +3,7 @@ use mathlib.Core.Path.{_≡_}
 use mathlib.Core.Bool.{Bool, true, false, _||_}
 use Prim.Native.Nat.{ℕ, zero, suc, _+_, _/_, _%_, _^_, _<_, _≤_}
 use lib.Dec.{eqb}
-use Rattle.code.specs.Record.{TrackSet, A, B, other, Closing, open-tail, Shape, tracks, track-length, Cells, sum}
+use Rattle.code.specs.Record.{TrackSet, A, B, other, open-tail, Shape, tracks, track-length, Cells, sum}
 use Rattle.code.specs.Image.{track-number}
 
 -- Which tracks are flagged, and which cells: a flagged track is all of its cells.

@@ -6,6 +6,7 @@ pub mod Flags
 pub mod Lost
 pub mod Reach
 pub mod Packed
+pub mod Spans
 pub mod Numbers
 pub mod Calls
 pub mod Contracts

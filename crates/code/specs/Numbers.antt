@@ -7,9 +7,10 @@ use lib.ListN.{length}
 use lib.Dec.{ltb}
 use Rattle.code.specs.Record.{Shape}
 use Rattle.code.specs.Image.{all-tracks}
-use Rattle.code.specs.Flags.{TrackFlags}
+use Rattle.code.specs.Flags.{TrackFlags, CellFlags}
 use Rattle.code.specs.Reach.{pick, flags-code}
 use Rattle.code.specs.Packed.{PaddingSet}
+use Rattle.code.specs.Spans.{Table, Broken, WindowTooMany}
 
 -- A number, the detail that goes with it, and the condition under which it is given.
 pub record Check : Type 1 where
@@ -50,6 +51,14 @@ reach-check sh f = record { number = 6; detail = 0; applies = flags-code sh f �
 -- 8, on unpacking: a padding bit is 1.
 abbrev pub padding-check : ℕ → List ℕ → Check
 padding-check n packed = record { number = 8; detail = 0; applies = PaddingSet n packed }
+
+-- 9, where flags are by stretch: the table of pairs is broken. It is checked in place of 5.
+abbrev pub table-check : ℕ → Table → Check
+table-check cells table = record { number = 9; detail = 0; applies = Broken cells table }
+
+-- 6, where flags are by stretch: at some position the tracks with a flagged cell in its window have code 0.
+abbrev pub window-check : Shape → CellFlags → Check
+window-check sh flag = record { number = 6; detail = 0; applies = WindowTooMany sh flag }
 
 -- ## Lists of checks, in checking order
 

@@ -1,5 +1,5 @@
 -- The sizes that code takes, and the shape that they describe.
-use Prim.Native.Nat.{ℕ, _≤_}
+use Prim.Native.Nat.{_≤_}
 use Rattle.code.specs.Record.{closed-tail, Shape}
 use Rattle.code.specs.declared.Sizes.{Sizes}
 

@@ -1,7 +1,8 @@
 -- The three points of the supply, a record a point and a field a sentence, what document 01 says besides of the values that repair
--- and tracing return, and what document 02 says of packing, of lost cells and of records of no blocks. Whatever the contracts allow
+-- and tracing return, and what document 02 says of packing, of lost cells, of records of no blocks and of flags by stretch. Whatever the contracts allow
 -- has them: `point-1`, `point-2`, `point-3` and `values` of proofs/Supply, `packing-undone` and `unpacking-undone` of proofs/Undoing,
--- `as-before` of proofs/Lost, `no-blocks` of proofs/NoBlocks.
+-- `as-before` of proofs/Lost, `no-blocks` of proofs/NoBlocks, `span-point-3`, `span-values` and `as-repair` of proofs/Stretches,
+-- `repair-is-a-case` of proofs/WholeTracks.
 use mathlib.Core.Path.{_≡_}
 use mathlib.Core.Logic.{_⊎_, _≢_, _↔_}
 use mathlib.Core.Bool.{true, false}
@@ -16,6 +17,7 @@ use Rattle.code.specs.Packed.{packed-size}
 use Rattle.code.specs.Reach.{flags-code, most, Extra, none, extra, AtMostOne, Ambiguous}
 use Rattle.code.specs.Calls.{Result, plain, Stays, changed-in, changed-cells, RepairNear, TraceNear}
 use Rattle.code.specs.Lost.{bit-values, is-lost}
+use Rattle.code.specs.Spans.{Table, span-flags, Broken, WindowsCoded, OnTracks, word-table}
 use Rattle.code.specs.Contracts.{
   Encoded,
   ReadBy,
@@ -25,6 +27,7 @@ use Rattle.code.specs.Contracts.{
   call-flags,
   Repaired,
   Traced,
+  SpansRepaired,
   Viewed,
   WasPacked,
   WasUnpacked,
@@ -46,6 +49,7 @@ pub data Input : Type 0 where
   encode : (n : ℕ) (payload before : List ℕ) → Input
   read : (n : ℕ) (image before : List ℕ) → Input
   mend : Mending → (n flags : ℕ) (image before : List ℕ) → Input
+  mend-spans : (n : ℕ) (table : Table) (image before : List ℕ) → Input
   pack : (n : ℕ) (image before : List ℕ) → Input
   unpack : (n : ℕ) (packed before : List ℕ) → Input
 
@@ -55,6 +59,7 @@ Right (encode n payload before) = Encoded n payload before
 Right (read n image before) = WasRead n image before
 Right (mend repair n flags image before) = Repaired n flags image before
 Right (mend trace n flags image before) = Traced n flags image before
+Right (mend-spans n table image before) = SpansRepaired n table image before
 Right (pack n image before) = WasPacked n image before
 Right (unpack n packed before) = WasUnpacked n packed before
 
@@ -62,15 +67,17 @@ abbrev pub output-before : Input → List ℕ
 output-before (encode n payload before) = before
 output-before (read n image before) = before
 output-before (mend way n flags image before) = before
+output-before (mend-spans n table image before) = before
 output-before (pack n image before) = before
 output-before (unpack n packed before) = before
 
 -- "The encoder gives only 1 to 3, the reader 1 to 4 and 7." Of packing and unpacking: "numbers 1 to 4 apply by their own lengths",
--- and "8, on unpacking".
+-- and "8, on unpacking". Of flags by stretch: "9, … checked in place of 5".
 abbrev pub OwnAnswer : Input → ℕ → Type 0
 OwnAnswer (encode n payload before) k = k ≤ 3
 OwnAnswer (read n image before) k = (k ≤ 4) ⊎ (k ≡ 7)
 OwnAnswer (mend way n flags image before) k = k ≤ 7
+OwnAnswer (mend-spans n table image before) k = ((k ≤ 7) × (k ≢ 5)) ⊎ (k ≡ 9)
 OwnAnswer (pack n image before) k = k ≤ 4
 OwnAnswer (unpack n packed before) k = (k ≤ 3) ⊎ (k ≡ 8)
 
@@ -79,6 +86,7 @@ abbrev pub result-size : Input → ℕ
 result-size (encode n payload before) = image-size (base n)
 result-size (read n image before) = payload-size (base n) n
 result-size (mend way n flags image before) = image-size (base n)
+result-size (mend-spans n table image before) = image-size (base n)
 result-size (pack n image before) = packed-size n
 result-size (unpack n packed before) = image-size (base n)
 
@@ -87,16 +95,17 @@ abbrev pub LeftBy7 : Input → List ℕ → Type 0
 LeftBy7 (encode n payload before) after = after ≡ before
 LeftBy7 (read n image before) after = after ≡ before
 LeftBy7 (mend way n flags image before) after = (i : ℕ) → i < image-size (base n) → getD after i 0 ≡ getD image i 0
+LeftBy7 (mend-spans n table image before) after = (i : ℕ) → i < image-size (base n) → getD after i 0 ≡ getD image i 0
 LeftBy7 (pack n image before) after = after ≡ before
 LeftBy7 (unpack n packed before) after = after ≡ before
 
 pub record Point1 (input : Input) (r : Result) (after : List ℕ) : Type 0 where
   -- "The answer to any call but the track view is 0 or one of the seven numbers, for every block count, length, cell value and flag word."
-  -- Document 02: "The later numbers join the seven in point 1 of the supply": eight by now.
-  pub answer : r .answer ≤ 8
+  -- Document 02: "The later numbers join the seven in point 1 of the supply": nine by now.
+  pub answer : r .answer ≤ 9
   pub own-answer : OwnAnswer input (r .answer)
   -- "It always comes, it presumes no check made by the calling program," — that the calls of crates/codec, crates/repair,
-  -- crates/packed and crates/axp_c end, and meet `Right` without a `requires`, is what the checker proves of each of them.
+  -- crates/packed, crates/spans and crates/axp_c end, and meet `Right` without a `requires`, is what the checker proves of each of them.
   -- "and beside each number the document fixes every byte of the output."
   pub fixed : (other : Result) (bytes : List ℕ) → Right input other bytes → (other ≡ r) × (bytes ≡ after)
   -- Document 01: "Numbers 1 to 6 leave the output as it came." Document 02, of 8: "This and every later number leaves the output as it
@@ -245,6 +254,7 @@ abbrev pub block-count : Input → ℕ
 block-count (encode n payload before) = n
 block-count (read n image before) = n
 block-count (mend way n flags image before) = n
+block-count (mend-spans n table image before) = n
 block-count (pack n image before) = n
 block-count (unpack n packed before) = n
 
@@ -275,3 +285,32 @@ pub record NoBlocks : Type 0 where
       Within (base 0) f → (r .answer ≡ 0) ↔ near-by way (base 0) (flags-code (base 0) f) f image blank
   -- The track view hands over the fifteen cells of a track.
   pub viewed : (image : List ℕ) (g : ℕ) (part : List ℕ) → Viewed 0 image g part → length image ≡ 270 → g < 18 → part ≡ take 15 (drop (g * 15) image)
+
+-- ## Document 02, note 5: flags by stretch
+
+-- "Of this call point 3 speaks by cells: the rule on positions stands in place of its limit on flagged tracks, and flagged and unflagged
+-- cells in place of such tracks." After a call that met none of numbers 1 to 4 and 9. "Its four-block statement on too many flags is about
+-- whole tracks only": f are the flagged tracks where the flagged cells are whole tracks.
+abbrev pub SpanPoint3 : ℕ → Table → List ℕ → TrackFlags → Result → List ℕ → Type 0
+SpanPoint3 n table image f =
+    let sh = base n in
+    let flag = span-flags sh table image in
+    Point3 sh (RepairNear sh flag image) (WindowsCoded sh flag) ((4 ≤ n) × OnTracks sh flag f) (Ambiguous sh f) image
+
+-- What is returned besides: with any other answer than 0 mask and number are 0, no extra is ever named, and the mask has no bit from 18 up.
+pub record SpanValues (sh : Shape) (r : Result) : Type 0 where
+  pub otherwise : r .answer ≢ 0 → r ≡ plain (r .answer) (r .detail)
+  pub unnamed : (s : TrackSet) → extra-in r s ≡ none
+  pub mask-small : r .mask < 2 ^ all-tracks sh
+
+-- Pairs that are whole tracks: where the flagged cells are those of the tracks that repair counts as flagged, the call is repair.
+abbrev pub AsRepair : ℕ → Table → ℕ → List ℕ → List ℕ → Type 0
+AsRepair n table word image before =
+    ¬ Broken (image-size (base n)) table → word < 2 ^ all-tracks (base n) → OnTracks (base n) (span-flags (base n) table image) (call-flags n word image) →
+    (r : Result) (after : List ℕ) → SpansRepaired n table image before r after ↔ Repaired n word image before r after
+
+-- So repair is a case of the call: of a flag word whose tracks have the image's lost cells, it is the call with the table of the tracks.
+abbrev pub RepairIsACase : ℕ → ℕ → List ℕ → List ℕ → Type 0
+RepairIsACase n word image before =
+    word < 2 ^ all-tracks (base n) → ((s : TrackSet) (t : ℕ) → t < tracks (base n) s → call-flags n word image s t ≡ word-flags (base n) word s t) →
+    (r : Result) (after : List ℕ) → SpansRepaired n (word-table (base n) word) image before r after ↔ Repaired n word image before r after

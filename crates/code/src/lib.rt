@@ -1,4 +1,4 @@
-// The sizes of a record, the table of reach codes, what reading a cell yields, and what a call answers.
+// The sizes of a record, the table of reach codes, what reading a cell yields, a pair of a table of stretches, and what a call answers.
 ghost use mathlib.Core.Path.{_≡_};
 ghost use Prim.Native.Nat.{_<_};
 ghost use Rattle.code.specs.Lost.{byte-of, read-values, is-lost};
@@ -72,6 +72,13 @@ pub fn is_lost(x: u8) -> bool
         Reading::One => false,
         Reading::Lost => true,
     }
+}
+
+// A pair of a table: the index of a stretch's first cell in the image, and the number of its cells.
+#[repr(C)]
+pub struct Span {
+    pub offset: u32,
+    pub length: u32,
 }
 
 // No extra track, or one with its track number.

@@ -7,41 +7,29 @@ use Prim.Native.Nat.{ℕ, _*_, _≤_}
 use native.Mathlib.Omega.{arith}
 use lib.ListN.{length, take, drop}
 use lib.Seq.{length-take-le}
-use Rattle.code.specs.Record.{TrackSet, base, Shape, tracks, Cells, Same}
+use Rattle.code.specs.Record.{base, Shape, tracks}
 use Rattle.code.specs.Image.{image-size, cells}
-use Rattle.code.specs.Flags.{TrackFlags, CellFlags, whole, word-flags, AgreeOff}
+use Rattle.code.specs.Flags.{TrackFlags, whole, word-flags}
 use Rattle.code.specs.Lost.{read-values, lost-tracks}
-use Rattle.code.specs.Reach.{flags-code, Extra, none}
+use Rattle.code.specs.Reach.{flags-code, none}
 use Rattle.code.specs.Numbers.{Check, image-checks, flag-check, reach-check, Passed}
-use Rattle.code.specs.Calls.{
-  Result,
-  plain,
-  Refused,
-  Answered,
-  mended,
-  Mended,
-  early-checks,
-  repair-checks,
-  RepairNear,
-  Repairs,
-  TraceNear,
-  trace-named,
-  Traces,
-}
+use Rattle.code.specs.Calls.{Result, plain, Refused, Answered, early-checks, repair-checks, RepairNear, Repairs, TraceNear, trace-named, Traces}
 use Rattle.code.specs.Contracts.{call-flags, Repaired, Traced}
 use Rattle.code.specs.Sizes.{Small}
 use Rattle.code.specs.declared.Sizes.{Sizes}
-use Rattle.code.proofs.Changed.{changed-extra-same, mended-same}
-use Rattle.code.proofs.Front.{front-at, front-same, front-stays}
-use Rattle.code.proofs.Linear.{good-same}
+use Rattle.code.proofs.Changed.{changed-extra-same}
 use Rattle.code.proofs.Lost.{none-lost}
 use Rattle.code.proofs.Numbers.{first-after, passed-both}
+use Rattle.code.proofs.Outputs.{own-cells, repair-all, trace-all, mended-as}
+use Rattle.code.proofs.Same.{SameFlags, code-same}
 use Rattle.solver.specs.Solver.{marked}
 use Rattle.checks.specs.First.{FirstAnswer}
 use Rattle.code.proofs.Accepted.{ImageRight, image-right}
 use Rattle.checks.proofs.Refusing.{refuses-call, passes}
-use Rattle.repair.specs.Steps.{Marks, ReadImage, LostMarked, Given}
-use Rattle.repair.proofs.Flagging.{SameFlags, marks-same, code-same, agree-same, reach-same}
+use Rattle.flags.specs.Marks.{Marks, ReadImage, LostMarked}
+use Rattle.repair.specs.Steps.{Given}
+use Rattle.flags.proofs.Bits.{marks-same}
+use Rattle.repair.proofs.Flagging.{agree-same, reach-same}
 
 -- ## Checks
 
@@ -75,76 +63,19 @@ right sh n word image room p = image-right read-values n (image-size sh) image (
 abbrev pub sizes : ℕ → Sizes
 sizes n = record { t1 = 7; t2 = 7; positions = 8 * n }
 
--- ## The output
-
--- A record is the same as itself.
-own-cells : (sh : Shape) (image : List ℕ) → Same sh (cells sh image) (cells sh image)
-own-cells sh image = record { cell = λ s t m l b. refl }
-
-module _ (sh : Shape) (image out part : List ℕ) (room : image-size sh ≤ length out) (size : length part ≡ image-size sh) where
-  abbrev all : List ℕ
-  all = part ++ drop (image-size sh) out
-
-  part-cells : Same sh (cells sh part) (cells sh all)
-  part-cells = front-same sh out part size room
-
-  -- What is right of the part is right of the whole output.
-  mended-all : (near : Cells → Type 0) (named : List ℕ → TrackSet → Extra) → (near (cells sh part) → near (cells sh all)) → ((s : TrackSet) → named part s ≡ named all s) →
-      (r : Result) → Mended sh near named image (take (image-size sh) out) r part → Mended sh near named image out r all
-  mended-all near named h e r (inl f) = inl (record {
-    good = good-same sh _ _ part-cells (f .good);
-    reached = h (f .reached);
-    stays = front-stays (image-size sh) out part size room;
-    result = f .result ∙ mended-same sh _ _ _ _ (own-cells sh image) part-cells (named part) (named all) e;
-  })
-  mended-all near named h e r (inr f) = inr (record {
-    no-record = f .no-record;
-    copy = λ i l. front-at (image-size sh) out part size room i l ∙ f .copy i l;
-    stays = front-stays (image-size sh) out part size room;
-    result = f .result;
-  })
-
-  -- Agreement with the part is agreement with the whole.
-  agree-all : (flag : CellFlags) (x : Cells) → AgreeOff sh flag x (cells sh part) → AgreeOff sh flag x (cells sh all)
-  agree-all flag x a = record { cell = λ s t m l b e. a .cell s t m l b e ∙ part-cells .cell s t m l b }
-
-  pub repair-all : (flag : CellFlags) (r : Result) → Repairs sh flag image (take (image-size sh) out) r part → Repairs sh flag image out r all
-  repair-all flag = mended-all (RepairNear sh flag image) (λ _ _. none) (agree-all _ _) (λ s. refl)
-
-  pub trace-all : (code : ℕ) (f : TrackFlags) (r : Result) → Traces sh code f image (take (image-size sh) out) r part → Traces sh code f image out r all
-  trace-all code f = mended-all (TraceNear sh code f image) (trace-named sh f image)
-      (λ i. record { choice = i .choice; allowed = i .allowed; agree = agree-all _ _ (i .agree) })
-      (λ s. changed-extra-same sh _ _ _ _ (own-cells sh image) part-cells f f s (λ t l. refl) (tracks sh s) (omega arith))
-
 -- ## Flags that say the same
 
 module _ (sh : Shape) (image before : List ℕ) (r : Result) (after : List ℕ) where
-  -- The same records count as near, and the same extras are named.
-  mended-as : (near near′ : Cells → Type 0) (named named′ : List ℕ → TrackSet → Extra) → ((y : Cells) → near y → near′ y) → ((y : Cells) → near′ y → near y) →
-      ((s : TrackSet) → named after s ≡ named′ after s) → Mended sh near named image before r after → Mended sh near′ named′ image before r after
-  mended-as near near′ named named′ to from e (inl a) = inl (record {
-    good = a .good;
-    reached = to _ (a .reached);
-    stays = a .stays;
-    result = a .result ∙ (λ i. mended sh (cells sh image) (cells sh after) (λ s. e s i));
-  })
-  mended-as near near′ named named′ to from e (inr a) = inr (record {
-    no-record = λ y g n. a .no-record y g (from y n);
-    copy = a .copy;
-    stays = a .stays;
-    result = a .result;
-  })
-
   module _ (f g : TrackFlags) (same : SameFlags sh f g) where
     back : SameFlags sh g f
     back s t l = sym (same s t l)
 
     pub repairs-as : Repairs sh (whole f) image before r after → Repairs sh (whole g) image before r after
-    repairs-as = mended-as (RepairNear sh (whole f) image) (RepairNear sh (whole g) image) (λ _ _. none) (λ _ _. none)
+    repairs-as = mended-as sh image before r after (RepairNear sh (whole f) image) (RepairNear sh (whole g) image) (λ _ _. none) (λ _ _. none)
         (agree-same sh f g same (cells sh image)) (agree-same sh g f back (cells sh image)) (λ s. refl)
 
     pub traces-as : (code : ℕ) → Traces sh code f image before r after → Traces sh code g image before r after
-    traces-as code = mended-as (TraceNear sh code f image) (TraceNear sh code g image) (trace-named sh f image) (trace-named sh g image)
+    traces-as code = mended-as sh image before r after (TraceNear sh code f image) (TraceNear sh code g image) (trace-named sh f image) (trace-named sh g image)
         (reach-same sh f g same code (cells sh image)) (reach-same sh g f back code (cells sh image))
         (λ s. changed-extra-same sh _ _ _ _ (own-cells sh image) (own-cells sh after) f g s (same s) (tracks sh s) (omega arith))
 

@@ -1,51 +1,28 @@
 -- Flags: those that say the same, and plans for flags within the limit.
-use mathlib.Core.Path.{_≡_, sym, ap, ap₂, _∙_}
+use mathlib.Core.Path.{_≡_, sym, ap, _∙_}
 use mathlib.Core.Logic.{_≢_, by-cases}
 use mathlib.Core.Bool.{Bool, _||_, true≢false}
-use mathlib.Core.List.{List}
 use Prim.Native.Nat.{ℕ, _<_, _≤_}
 use native.Mathlib.Decide.{decLe}
 use native.Mathlib.Omega.{arith}
-use lib.Dec.{eqb}
 use Rattle.code.specs.Record.{TrackSet, A, B, closed-tail, Shape, tracks, Cells}
-use Rattle.code.specs.Flags.{TrackFlags, whole, bit, word-flags, flag-count, AgreeOff, Within}
-use Rattle.code.specs.Reach.{reach-code, flags-code, is, Choice, Allowed, with-extras, InReach}
-use Rattle.code.specs.Sizes.{shape, Small}
-use Rattle.code.specs.declared.Sizes.{Sizes}
+use Rattle.code.specs.Flags.{TrackFlags, whole, flag-count, AgreeOff, Within}
+use Rattle.code.specs.Reach.{flags-code, is, Choice, Allowed, with-extras, InReach}
 use Rattle.code.proofs.Codes.{flags-room, closed-within}
-use Rattle.code.proofs.Places.{number-lt}
 use Rattle.code.proofs.Reached.{count-extras}
-use Rattle.code.proofs.Sums.{sum-same}
 use Rattle.solver.specs.declared.Plan.{Plan}
-use Rattle.solver.specs.Solver.{marked, Planned, Fills, Single, Beside, plan-of, Frame}
-use Rattle.repair.specs.Steps.{Marks}
+use Rattle.solver.specs.Solver.{Planned, Fills, Single, Beside, plan-of, Frame}
+use Rattle.code.proofs.Same.{SameFlags, count-same}
 
 -- ## Flags that say the same of a record's tracks
 
-abbrev pub SameFlags : Shape → TrackFlags → TrackFlags → Type 0
-SameFlags sh f g = (s : TrackSet) (t : ℕ) → t < tracks sh s → f s t ≡ g s t
-
--- The marks of a flag word are its flags.
-pub marks-same : (z : Sizes) (flags : ℕ) (marks : List ℕ) → Small z → Marks flags marks → SameFlags (shape z) (marked (shape z) marks) (word-flags (shape z) flags)
-marks-same z flags marks small m s t l = ap (λ (v : ℕ). eqb v 1) (m .marks-at _ (omega (arith, number-lt (shape z) s t l)))
-
 module _ (sh : Shape) (f g : TrackFlags) (same : SameFlags sh f g) where
-  -- They have the same counts.
-  count-same : (s : TrackSet) → flag-count sh f s ≡ flag-count sh g s
-  unfolding flag-count
-  count-same s = sum-same (tracks sh s) _ _ (λ t l. ap bit (same s t l))
-
-  -- The same code.
-  pub code-same : flags-code sh f ≡ flags-code sh g
-  unfolding flags-code
-  code-same = ap₂ reach-code (count-same A) (count-same B)
-
   -- The same limit.
   pub within-same : sh .closing ≡ closed-tail → Within sh f → Within sh g
   within-same c w = closed-within sh g c
-      (omega (arith, count-same A, w .in-set A))
-      (omega (arith, count-same B, w .in-set B))
-      (omega (arith, count-same A, count-same B, w .in-all))
+      (omega (arith, count-same sh f g same A, w .in-set A))
+      (omega (arith, count-same sh f g same B, w .in-set B))
+      (omega (arith, count-same sh f g same A, count-same sh f g same B, w .in-all))
 
   -- The same records agree off them.
   pub agree-same : (x y : Cells) → AgreeOff sh (whole f) x y → AgreeOff sh (whole g) x y

@@ -1,6 +1,4 @@
-pub mod Words
 pub mod Stretches
-pub mod Lost
 pub mod Naming
 pub mod Flagging
 pub mod Choices

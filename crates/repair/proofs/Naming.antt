@@ -12,8 +12,9 @@ use Rattle.code.specs.Record.{track-length}
 use Rattle.code.specs.Image.{all-tracks}
 use Rattle.code.specs.Sizes.{shape}
 use Rattle.code.specs.declared.Sizes.{Sizes}
-use Rattle.repair.specs.Steps.{HasTrack, changed-at, OnlyMarked, HasExtra, named-at}
-use Rattle.repair.proofs.Stretches.{has-track}
+use Rattle.changes.specs.Changes.{HasTrack, changed-at, OnlyMarked}
+use Rattle.repair.specs.Steps.{HasExtra, named-at}
+use Rattle.changes.proofs.Tracks.{has-track}
 
 module _ (l : ℕ) (image out : List ℕ) (first : ℕ) where
   -- The track of an extra that is not none.

@@ -1,5 +1,5 @@
 -- Whole records: what repair and tracing come to.
-use mathlib.Core.Path.{_≡_, refl, sym, ap, ap₂, subst, _∙_}
+use mathlib.Core.Path.{_≡_, refl, sym, ap, ap₂, _∙_}
 use mathlib.Core.Logic.{inl, inr}
 use mathlib.Core.Bool.{Bool, true, false, _||_}
 use mathlib.Core.List.{List}
@@ -7,50 +7,30 @@ use Prim.Native.Nat.{ℕ, zero, suc, _+_, _<_, _≤_}
 use native.Mathlib.Nat.{zero-add}
 use native.Mathlib.Omega.{arith}
 use lib.Dec.{eqb}
-use lib.ListN.{length, getD, List·getD-eq-default}
-use Rattle.code.specs.Record.{TrackSet, A, B, Shape, tracks, track-length, Cells, Good}
+use Rattle.code.specs.Record.{TrackSet, A, B, Shape, tracks, track-length}
 use Rattle.code.specs.Image.{track-number, image-size, cells}
-use Rattle.code.specs.Flags.{TrackFlags, CellFlags, whole, AgreeOff}
+use Rattle.code.specs.Flags.{TrackFlags, whole, AgreeOff}
 use Rattle.code.specs.Reach.{pick, flags-code, none, extra, is, Choice, with-extras}
-use Rattle.code.specs.Calls.{Result, plain, Stays, changed-in, changed-extra, mended, NotFound, Repairs, Traces}
+use Rattle.code.specs.Calls.{Result, plain, changed-in, changed-extra, mended, Repairs, Traces}
 use Rattle.code.specs.Sizes.{shape}
 use Rattle.code.specs.declared.Sizes.{Sizes}
 use Rattle.code.proofs.Codes.{code-within}
+use Rattle.code.proofs.Front.{stays-all}
+use Rattle.code.proofs.Outputs.{agree-on, not-found}
 use Rattle.code.proofs.Masks.{unchanged-in}
 use Rattle.code.proofs.Named.{none-named, one-named}
 use Rattle.code.proofs.Patterns.{neither}
 use Rattle.track.specs.Track.{known, Copied}
-use Rattle.track.proofs.Lost.{cell-known, length-known, known-at, known-bits}
+use Rattle.track.proofs.Lost.{LostCovered, copy-agree, agree-copy}
 use Rattle.syndrome.specs.Syndrome.{Image, Holds, Kept}
+use Rattle.syndrome.proofs.Copies.{copy-made, copy-image, copy-kept}
 use Rattle.solver.specs.Solver.{marked}
 use Rattle.repair.specs.declared.Hit.{Hit}
-use Rattle.repair.specs.Steps.{
-  OnlyMarked,
-  named-at,
-  Workable,
-  Worked,
-  choice-at,
-  extra-at,
-  IsChoice,
-  Widened,
-  Fits,
-  Traceable,
-  Searched,
-  names-at,
-  mended-at,
-  Given,
-}
-use Rattle.repair.proofs.Stretches.{changed-number}
+use Rattle.changes.specs.Changes.{OnlyMarked}
+use Rattle.repair.specs.Steps.{named-at, Workable, Worked, choice-at, extra-at, IsChoice, Widened, Fits, Traceable, Searched, names-at, mended-at, Given}
+use Rattle.changes.proofs.Tracks.{changed-number}
 use Rattle.repair.proofs.Flagging.{agree-same}
 use Rattle.repair.proofs.Choices.{is-other}
-use Rattle.repair.proofs.Working.{copied-all}
-
--- Two outputs of the image's size have no later bytes.
-stays-all : (n : ℕ) (before after : List ℕ) → length before ≡ n → length after ≡ n → Stays n before after
-stays-all n before after a b = record {
-  lengths = b ∙ sym a;
-  later = λ i h. List·getD-eq-default after 0 {n = i} (omega arith) ∙ sym (List·getD-eq-default before 0 {n = i} (omega arith));
-}
 
 -- ## The extras that tracing names
 
@@ -78,10 +58,6 @@ fits-names z code f image out a b c n = elim [
 
 -- ## The working copy
 
--- Two agreements, one after the other.
-agree-on : (sh : Shape) (flag : CellFlags) {x y u : Cells} → AgreeOff sh flag x y → AgreeOff sh flag y u → AgreeOff sh flag x u
-agree-on sh flag p q = record { cell = λ s t m l b e. p .cell s t m l b e ∙ q .cell s t m l b e }
-
 module _ (z : Sizes) (marks image out : List ℕ) (given : Given z marks image out) where
   abbrev sh : Shape
   sh = shape z
@@ -89,31 +65,19 @@ module _ (z : Sizes) (marks image out : List ℕ) (given : Given z marks image o
   abbrev f : TrackFlags
   f = marked (shape z) marks
 
-  copy-size : length (known image) ≡ image-size sh
-  copy-size = length-known image ∙ given .image-is .size
+  -- Flags that flag these tracks flag every lost cell.
+  covered : (g : TrackFlags) → ((s : TrackSet) (t : ℕ) → g s t ≡ false → f s t ≡ false) → LostCovered sh (whole g) image
+  covered g less s t m l b e = given .covered s t m l b (less s t e)
 
-  -- Off the marks, and off more tracks than these, it is the image.
-  copy-agree : (g : TrackFlags) → ((s : TrackSet) (t : ℕ) → g s t ≡ false → f s t ≡ false) → AgreeOff sh (whole g) (cells sh image) (cells sh (known image))
-  copy-agree g less = record { cell = λ s t m l b e. sym (known-at image _ ∙ cell-known _ (given .covered s t m l b (less s t e))) }
-
-  agree-copy : (g : TrackFlags) → ((s : TrackSet) (t : ℕ) → g s t ≡ false → f s t ≡ false) → (y : Cells) → AgreeOff sh (whole g) (cells sh image) y →
-      AgreeOff sh (whole g) (cells sh (known image)) y
-  agree-copy g less y n = agree-on sh (whole g) (record { cell = λ s t m l b e. sym (copy-agree g less .cell s t m l b e) }) n
-
-  -- The output after the copy is made.
+  -- The output after the copy is made, and the copy with its syndromes.
   pub given-copy : (after : List ℕ) → Copied (known image) out after → after ≡ known image
-  given-copy after c = copied-all (known image) out after c (copy-size ∙ sym (given .out-has))
+  given-copy after = copy-made sh image (given .image-is .size) out after (given .out-has)
 
   pub given-image : (copy : List ℕ) → copy ≡ known image → Image sh copy
-  given-image copy e = rw e (record { size = copy-size; bits = known-bits image (given .image-is .readings) .bit })
+  given-image = copy-image sh image (given .image-is .size) (given .image-is .readings)
 
-  -- The copy with its syndromes.
   pub given-kept : (copy syn : List ℕ) → copy ≡ known image → Holds sh (cells sh copy) syn → Kept z (known image) syn
-  given-kept copy syn e h = record {
-    small = given .small;
-    image = given-image (known image) refl;
-    holds = subst (λ (xs : List ℕ). Holds sh (cells sh xs) syn) e h;
-  }
+  given-kept copy syn = copy-kept z image copy syn (given .small) (given .image-is .size) (given .image-is .readings)
 
   -- ## Repair
 
@@ -126,19 +90,9 @@ module _ (z : Sizes) (marks image out : List ℕ) (given : Given z marks image o
     within = code-within sh f refl (given .coded);
   }
 
-  -- Answer 7: the output is the image.
-  not-found : (after : List ℕ) → after ≡ image → (near : Cells → Type 0) → ((y : Cells) → Good sh y → near y → ⊥) → (answer : Result) → answer ≡ plain 7 0 →
-      NotFound sh near image out answer after
-  not-found after back near nothing answer e = record {
-    no-record = nothing;
-    copy = λ i l. ap (λ (xs : List ℕ). getD xs i 0) back;
-    stays = stays-all (image-size sh) out after (given .out-has) (ap length back ∙ given .image-is .size);
-    result = e;
-  }
-
   module _ (after : List ℕ) (r : Bool) (w : Worked sh f (known image) after r) where
     found-agree : r ≡ true → AgreeOff sh (whole f) (cells sh image) (cells sh after)
-    found-agree h = agree-on sh (whole f) (copy-agree f (λ s t e. e)) (w .agree h)
+    found-agree h = agree-on sh (whole f) (copy-agree sh (whole f) image (covered f (λ s t e. e))) (w .agree h)
 
     -- Only marked tracks were changed.
     pub worked-only : r ≡ true → OnlyMarked z marks image after
@@ -161,7 +115,8 @@ module _ (z : Sizes) (marks image out : List ℕ) (given : Given z marks image o
     })
 
     pub repair-none : r ≡ false → (last : List ℕ) → last ≡ image → (answer : Result) → answer ≡ plain 7 0 → Repairs sh (whole f) image out answer last
-    repair-none h last back answer e = inr (not-found last back _ (λ y g n. w .no-record h y g (agree-copy f (λ s t e. e) y n)) answer e)
+    repair-none h last back answer e = inr (not-found sh image out last back (given .image-is .size) (given .out-has) _
+        (λ y g n. w .no-record h y g (agree-copy sh (whole f) image (covered f (λ s t e. e)) y n)) answer e)
 
   -- ## Tracing
 
@@ -187,7 +142,7 @@ module _ (z : Sizes) (marks image out : List ℕ) (given : Given z marks image o
       found-fits : r .found ≡ true → Fits sh code f image choice (cells sh after)
       found-fits h =
           let n = w .fits h in
-          record { good = n .good; allowed = n .allowed; agree = agree-on sh (whole (with-extras f choice)) (copy-agree (with-extras f choice) (more choice)) (n .agree) }
+          record { good = n .good; allowed = n .allowed; agree = agree-on sh (whole (with-extras f choice)) (copy-agree sh (whole (with-extras f choice)) image (covered (with-extras f choice) (more choice))) (n .agree) }
 
       -- Only flagged tracks and extras were changed.
       pub searched-only : r .found ≡ true → (wide : List ℕ) → Widened sh marks choice wide → OnlyMarked z wide image after
@@ -211,5 +166,5 @@ module _ (z : Sizes) (marks image out : List ℕ) (given : Given z marks image o
           })
 
       pub trace-none : r .found ≡ false → (last : List ℕ) → last ≡ image → (answer : Result) → answer ≡ plain 7 0 → Traces sh code f image out answer last
-      trace-none h last back answer e = inr (not-found last back _
-          (λ y g n. w .no-record h y g (record { choice = n .choice; allowed = n .allowed; agree = agree-copy (with-extras f (n .choice)) (more (n .choice)) y (n .agree) })) answer e)
+      trace-none h last back answer e = inr (not-found sh image out last back (given .image-is .size) (given .out-has) _
+          (λ y g n. w .no-record h y g (record { choice = n .choice; allowed = n .allowed; agree = agree-copy sh (whole (with-extras f (n .choice))) image (covered (with-extras f (n .choice)) (more (n .choice))) y (n .agree) })) answer e)

@@ -5,7 +5,6 @@ use mathlib.Core.List.{List}
 use Prim.Native.Nat.{ℕ, _≤_}
 use native.Mathlib.Omega.{arith}
 use lib.ListN.{length}
-use lib.Seq.{ext-getD}
 use Rattle.code.specs.Record.{A, B, Shape}
 use Rattle.code.specs.Image.{cells}
 use Rattle.code.specs.Flags.{TrackFlags, whole, AgreeOff}
@@ -14,16 +13,13 @@ use Rattle.code.specs.Sizes.{shape}
 use Rattle.code.specs.declared.Sizes.{Sizes}
 use Rattle.code.proofs.Codes.{code-small}
 use Rattle.code.proofs.Patterns.{in-each}
-use Rattle.track.specs.Track.{Copied}
 use Rattle.syndrome.specs.Syndrome.{Kept}
 use Rattle.solver.specs.declared.Plan.{Plan}
 use Rattle.solver.specs.Solver.{marked, Planned, Fills, plan-of, Solved}
-use Rattle.repair.specs.Steps.{OnlyMarked, Workable, Worked, Widened, Traceable, Tried}
-use Rattle.repair.proofs.Flagging.{SameFlags, within-same, agree-same, allowed-within, beside, frame-agree}
-
--- A list that is copied over one of its length.
-pub copied-all : (source before after : List ℕ) → Copied source before after → length source ≡ length before → after ≡ source
-copied-all source before after c e = ext-getD 0 after source (c .size ∙ sym e) (λ i h. c .copy i (omega (arith, c .size)))
+use Rattle.changes.specs.Changes.{OnlyMarked}
+use Rattle.repair.specs.Steps.{Workable, Worked, Widened, Traceable, Tried}
+use Rattle.code.proofs.Same.{SameFlags}
+use Rattle.repair.proofs.Flagging.{within-same, agree-same, allowed-within, beside, frame-agree}
 
 -- ## A plan's solution
 

@@ -3,76 +3,24 @@ use mathlib.Core.Path.{_≡_}
 use mathlib.Core.Logic.{_≢_}
 use mathlib.Core.Bool.{Bool, true, false}
 use mathlib.Core.List.{List}
-use Prim.Native.Nat.{ℕ, zero, suc, _+_, _*_, _/_, _%_, _^_, _<_, _≤_}
+use Prim.Native.Nat.{ℕ, zero, suc, _+_, _*_, _<_, _≤_}
 use lib.Dec.{eqb}
 use lib.ListN.{length, getD}
-use Rattle.code.specs.Record.{TrackSet, A, B, Shape, tracks, track-length, Cells, sum, Good}
+use Rattle.code.specs.Record.{TrackSet, A, B, Shape, tracks, track-length, Cells, Good}
 use Rattle.code.specs.Image.{all-tracks, image-size, cells}
-use Rattle.code.specs.Flags.{TrackFlags, whole, bit, AgreeOff, Within, any}
-use Rattle.code.specs.Lost.{is-lost, with-lost}
+use Rattle.code.specs.Flags.{TrackFlags, whole, AgreeOff, Within}
+use Rattle.code.specs.Lost.{is-lost}
 use Rattle.code.specs.Reach.{pick, flags-code, Extra, none, extra, Choice, Allowed, with-extras, InReach}
-use Rattle.code.specs.Calls.{Result, differ, changed-cells, changed-mask, mended}
+use Rattle.code.specs.Calls.{Result, mended}
 use Rattle.code.specs.Sizes.{shape, Small}
 use Rattle.code.specs.declared.Sizes.{Sizes}
-use Rattle.track.specs.Track.{Readings}
 use Rattle.syndrome.specs.Syndrome.{Kept}
 use Rattle.solver.specs.Solver.{marked}
-use Rattle.repair.specs.declared.Changes.{Changes}
+use Rattle.flags.specs.Marks.{ReadImage}
+use Rattle.changes.specs.Changes.{HasTrack, changed-at}
 use Rattle.repair.specs.declared.Hit.{Hit}
 
--- ## Flags
-
--- The marks of a flag word: one a track number.
-pub record Marks (flags : ℕ) (marks : List ℕ) : Type 0 where
-  pub size : length marks ≡ 18
-  pub marks-at : (g : ℕ) → g < 18 → getD marks g 0 ≡ flags / 2 ^ g % 2
-
--- Has track number g, of l cells, a lost cell?
-abbrev pub lost-at : ℕ → List ℕ → ℕ → Bool
-lost-at l image g = any l (λ m. is-lost (getD image (g * l + m) 0))
-
--- An image whose cells are readings.
-pub record ReadImage (sh : Shape) (image : List ℕ) : Type 0 where
-  pub size : length image ≡ image-size sh
-  pub readings : Readings image
-
--- The marks, and those of the tracks with a lost cell.
-pub record LostMarked (sh : Shape) (marks image r : List ℕ) : Type 0 where
-  pub size : length r ≡ 18
-  pub flags : (s : TrackSet) (t : ℕ) → t < tracks sh s → marked sh r s t ≡ with-lost sh (marked sh marks) image s t
-
--- What a mark counts.
-pub record Counts (x r : ℕ) : Type 0 where
-  pub is : r ≡ bit (eqb x 1)
-  pub small : r ≤ 1
-
--- The marked tracks among n from track number `first` on.
-abbrev pub marks-in : List ℕ → ℕ → ℕ → ℕ
-marks-in marks first n = sum n (λ t. bit (eqb (getD marks (first + t) 0) 1))
-
--- ## Changed cells
-
--- Two images have track number g, of l cells.
-pub record HasTrack (l g : ℕ) (image out : List ℕ) : Type 0 where
-  pub room : g * l + l ≤ length image
-  pub sizes : length out ≡ length image
-
--- The cells of track number g that differ.
-unfoldable pub changed-at : ℕ → List ℕ → List ℕ → ℕ → ℕ
-changed-at l image out g = sum l (λ m. differ (getD image (g * l + m) 0) (getD out (g * l + m) 0))
-
--- An image and an output that differ in marked tracks at the most.
-pub record OnlyMarked (z : Sizes) (marks image out : List ℕ) : Type 0 where
-  pub small : Small z
-  pub marks-size : all-tracks (shape z) ≤ length marks
-  pub image-has : length image ≡ image-size (shape z)
-  pub out-has : length out ≡ image-size (shape z)
-  pub agree : AgreeOff (shape z) (whole (marked (shape z) marks)) (cells (shape z) image) (cells (shape z) out)
-
--- The changed mask and cells.
-pub record Counted (sh : Shape) (image out : List ℕ) (r : Changes) : Type 0 where
-  pub mask-is : r .mask ≡ changed-mask sh (cells sh image) (cells sh out)
-  pub cells-are : r .cells ≡ changed-cells sh (cells sh image) (cells sh out)
+-- ## Working copies
 
 -- Track number g is the image's again, and no other is changed.
 pub record TrackBack (l g : ℕ) (image out after : List ℕ) : Type 0 where

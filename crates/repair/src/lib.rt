@@ -8,135 +8,19 @@ ghost use mathlib.Core.Path.{_≡_};
 ghost use Prim.Native.Nat.{_+_, _*_, _≤_};
 ghost use lib.ListN.{length};
 ghost use Rattle.code.specs.Record.{base};
-ghost use Rattle.code.specs.Image.{all-tracks};
 ghost use Rattle.code.specs.Flags.{whole};
 ghost use Rattle.code.specs.Lost.{read-values};
-ghost use Rattle.code.specs.Reach.{pick, size, flags-code};
+ghost use Rattle.code.specs.Reach.{size, flags-code};
 ghost use Rattle.code.specs.Calls.{early-checks, Repairs, Traces};
 ghost use Rattle.code.specs.Contracts.{Repaired, Traced};
 ghost use Rattle.code.specs.Answers.{extra-of, result-of};
-ghost use Rattle.code.specs.Sizes.{shape, Small};
+ghost use Rattle.code.specs.Sizes.{shape};
 ghost use Rattle.track.specs.Track.{Readings, known};
 ghost use Rattle.checks.specs.First.{FirstAnswer};
 ghost use Rattle.checks.specs.Lost.{LostTold};
 ghost use Rattle.solver.specs.Solver.{marked};
-ghost use Rattle.repair.specs.Steps.{
-  Marks,
-  lost-at,
-  ReadImage,
-  LostMarked,
-  Counts,
-  marks-in,
-  HasTrack,
-  changed-at,
-  OnlyMarked,
-  Counted,
-  TrackBack,
-  HasExtra,
-  named-at,
-  Workable,
-  Worked,
-  extra-at,
-  choice-at,
-  IsChoice,
-  OneMore,
-  Widened,
-  Free,
-  Allows,
-  Traceable,
-  Tried,
-  Searched,
-  mended-at,
-  Given,
-};
-
-// ---- Flags
-
-// The marks of a flag word: one a track number.
-fn marks_of(flags: u32) -> [u8; 18]
-    ensures { λ r. ⌜ Marks flags r ⌝ }
-{
-    let mut marks = [0u8; 18];
-    let mut rest = flags;
-    let mut g = 0;
-    while g < 18 {
-        marks[g] = (rest % 2) as u8;
-        rest = rest / 2;
-        g += 1;
-    }
-    marks
-}
-
-// Has track number g a lost cell?
-fn track_lost(image: &[u8], l: usize, g: usize) -> bool
-    requires { ⌜ g * l + l ≤ length (now image) ⌝ }
-    requires { ⌜ Readings (now image) ⌝ }
-    ensures { λ r. ⌜ r ≡ lost-at l (now (image .entry)) g ⌝ }
-{
-    let start = g * l;
-    let end = start + l;
-    code::is_lost(track::highest(&image[start..end]))
-}
-
-// The mark of a track with this mark, which has a lost cell or not.
-fn lost_mark(x: u8, found: bool) -> u8
-    ensures { λ r. ⌜ r ≡ pick found 1 x ⌝ }
-{
-    if found { 1 } else { x }
-}
-
-// The marks, and those of the tracks with a lost cell. An image without one is not scanned again.
-fn mark_lost(z: Sizes, marks: [u8; 18], image: &[u8], lost: bool) -> [u8; 18]
-    requires { ⌜ Small z ⌝ }
-    requires { ⌜ length marks ≡ 18 ⌝ }
-    requires { ⌜ ReadImage (shape z) (now image) ⌝ }
-    requires { ⌜ LostTold (now image) lost ⌝ }
-    ensures { λ r. ⌜ LostMarked (shape z) marks (now (image .entry)) r ⌝ }
-{
-    let mut wide = marks;
-    if !lost {
-        return wide;
-    }
-    let l = z.positions + (z.t1 + z.t2 + 1);
-    let all = z.t1 + z.t2 + 4;
-    let mut g = 0;
-    while g < all {
-        wide[g] = lost_mark(wide[g], track_lost(image, l, g));
-        g += 1;
-    }
-    wide
-}
-
-// What a mark counts.
-fn mark(x: u8) -> usize
-    ensures { λ r. ⌜ Counts x r ⌝ }
-{
-    if x == 1 { 1 } else { 0 }
-}
-
-// The marked tracks among n from track number `first` on.
-fn count_marks(marks: &[u8], first: usize, n: usize) -> usize
-    requires { ⌜ first + n ≤ length (now marks) ⌝ }
-    ensures { λ r. ⌜ r ≡ marks-in (now (marks .entry)) first n ⌝ }
-{
-    let mut count: usize = 0;
-    let mut t = 0;
-    while t < n {
-        count += mark(marks[first + t]);
-        t += 1;
-    }
-    count
-}
-
-// The code of the marked tracks.
-fn code_of(z: Sizes, marks: &[u8]) -> u8
-    requires { ⌜ Small z ⌝ }
-    requires { ⌜ all-tracks (shape z) ≤ length (now marks) ⌝ }
-    ensures { λ r. ⌜ r ≡ flags-code (shape z) (marked (shape z) (now (marks .entry))) ⌝ }
-{
-    let a = z.t1 + 2;
-    code::reach(count_marks(marks, 0, a), count_marks(marks, a, z.t2 + 2))
-}
+ghost use Rattle.changes.specs.Changes.{HasTrack, OnlyMarked};
+ghost use Rattle.repair.specs.Steps.{TrackBack, HasExtra, named-at, Workable, Worked, extra-at, choice-at, IsChoice, OneMore, Widened, Free, Allows, Traceable, Tried, Searched, mended-at, Given};
 
 // ---- Checks
 
@@ -165,50 +49,7 @@ fn check(blocks: u32, flags: u32, image: &[u8], room: usize) -> Checked
     }
 }
 
-// ---- Changed cells
-
-// The changed mask and the number of changed cells.
-pub struct Changes {
-    pub mask: u32,
-    pub cells: u32,
-}
-
-// The changed cells of track number g.
-fn count_track(image: &[u8], out: &[u8], l: usize, g: usize) -> usize
-    requires { ⌜ HasTrack l g (now image) (now out) ⌝ }
-    ensures { λ r. ⌜ r ≡ changed-at l (now (image .entry)) (now (out .entry)) g ⌝ }
-{
-    let start = g * l;
-    let end = start + l;
-    track::count_differing(&image[start..end], &out[start..end])
-}
-
-// The changed mask and cells, of which only marked tracks have any.
-fn count_changes(z: Sizes, marks: &[u8], image: &[u8], out: &[u8]) -> Changes
-    requires { ⌜ OnlyMarked z (now marks) (now image) (now out) ⌝ }
-    ensures { λ r. ⌜ Counted (shape z) (now (image .entry)) (now (out .entry)) r ⌝ }
-{
-    let l = z.positions + (z.t1 + z.t2 + 1);
-    let all = z.t1 + z.t2 + 4;
-    let mut mask: u32 = 0;
-    let mut count: u32 = 0;
-    let mut place: u32 = 1;
-    let mut g = 0;
-    while g < all {
-        let changed = if marks[g] == 1 {
-            count_track(image, out, l, g)
-        } else {
-            0
-        };
-        count += changed as u32;
-        if changed != 0 {
-            mask += place;
-        }
-        place = 2 * place;
-        g += 1;
-    }
-    Changes { mask, cells: count }
-}
+// ---- Working copies
 
 // Makes track number g of a working copy anew.
 fn restore_track(image: &[u8], out: &mut [u8], l: usize, g: usize)
@@ -258,7 +99,7 @@ fn named(image: &[u8], out: &[u8], l: usize, first: usize, e: usize) -> Extra
         return Extra::None;
     }
     let g = first + (e - 1);
-    if count_track(image, out, l, g) == 0 {
+    if changes::count_track(image, out, l, g) == 0 {
         return Extra::None;
     }
     Extra::Track(g as u32)
@@ -271,7 +112,7 @@ fn answer_of(z: Sizes, marks: &[u8], image: &[u8], out: &[u8], a: usize, b: usiz
     ensures { λ r. ⌜ result-of r ≡ mended-at (shape z) (now (image .entry)) (now (out .entry)) a b ⌝ }
 {
     let l = z.positions + (z.t1 + z.t2 + 1);
-    let t = count_changes(z, marks, image, out);
+    let t = changes::count_changes(z, marks, image, out);
     let in_a = named(image, out, l, 0, a);
     let in_b = named(image, out, l, z.t1 + 2, b);
     Answer {
@@ -334,9 +175,9 @@ pub fn repair(blocks: u32, flags: u32, image: &[u8], out: &mut [u8]) -> Answer
         t2: 7,
         positions: 8 * n,
     };
-    let word = marks_of(flags);
-    let marks = mark_lost(z, word, image, seen.lost);
-    if code_of(z, &marks) == 0 {
+    let word = flags::marks_of(flags);
+    let marks = flags::mark_lost(z, word, image, seen.lost);
+    if flags::code_of(z, &marks) == 0 {
         return plain_answer(6, 0);
     }
     repair_record(z, marks, image, &mut out[..18 * (8 * n + 15)], seen.lost)
@@ -531,9 +372,9 @@ pub fn trace(blocks: u32, flags: u32, image: &[u8], out: &mut [u8]) -> Answer
         t2: 7,
         positions: 8 * n,
     };
-    let word = marks_of(flags);
-    let marks = mark_lost(z, word, image, seen.lost);
-    let code = code_of(z, &marks);
+    let word = flags::marks_of(flags);
+    let marks = flags::mark_lost(z, word, image, seen.lost);
+    let code = flags::code_of(z, &marks);
     if code == 0 {
         return plain_answer(6, 0);
     }

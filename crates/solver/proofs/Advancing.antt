@@ -42,7 +42,7 @@ use Rattle.solver.specs.Steps.{
   ColumnsZero,
 }
 use Rattle.solver.proofs.Settling.{RightCell, right-cell}
-use Rattle.solver.proofs.Stepping.{still-right, still-set, still-both}
+use Rattle.solver.proofs.Stepping.{still-right, still-set, still-both, made-tracks}
 
 -- ## From one position to the next
 
@@ -80,11 +80,11 @@ pub advanced-more : {z : Sizes} {a b : Plan} {from m : ℕ} {o₀ o₁ o₂ o₃
     Stepped z 0 a m o₁ o₂ n₂ → Stepped z 1 b m o₂ o₃ n₃ → Advanced z a b from (m + 1) o₀ o₃ n₃
 advanced-more {z} {a} {b} {from} {m} {o₀} {o₁} {o₂} {o₃} h p v w = record {
   kept = w .kept;
-  frame = record { same = λ s t q l k n. p .frame .same s t q l k n ∙ sym (v .only s t q l k (λ e i. n (rw e i))) ∙ sym (w .only s t q l k (λ e i. n (rw e i))) };
+  frame = record { same = λ s t q l k n. p .frame .same s t q l k n ∙ sym (v .only s t q l k (λ e i _. n (rw e i))) ∙ sym (w .only s t q l k (λ e i _. n (rw e i))) };
   ready = λ f y r.
       let c = p .ready f y r in
-      let v′ = v .made f y (c .planned A) (c .good) (c .right) (c .ahead A) in
-      ready-next h c v′ (w .made f y (c .planned B) (c .good) (still-right (omega arith) (v′ .still) (c .right)) (λ l. still-set (omega arith) (v′ .still) (c .ahead B l)));
+      let v′ = made-tracks f y h v (c .planned A) (c .good) (c .right) (c .ahead A) in
+      ready-next h c v′ (made-tracks f y h w (c .planned B) (c .good) (still-right (omega arith) (v′ .still) (c .right)) (λ l. still-set (omega arith) (v′ .still) (c .ahead B l)));
 }
 
 -- Nothing is done yet in one set.
@@ -96,7 +96,7 @@ pub alone-more : {z : Sizes} {a b : Plan} {s m : ℕ} {p : Plan} {o₀ o₁ o₂
     Alone z a b s m o₀ o₁ n₁ → Stepped z s p m o₁ o₂ n₂ → Alone z a b s (m + 1) o₀ o₂ n₂
 alone-more {z} {a} {b} {s} {m} {p} {o₀} {o₁} {o₂} h i v w = record {
   kept = w .kept;
-  frame = record { same = λ c t q l k n. v .frame .same c t q l k n ∙ sym (w .only c t q l k (λ e j. n (rw e (rw (sym i) j)))) };
+  frame = record { same = λ c t q l k n. v .frame .same c t q l k n ∙ sym (w .only c t q l k (λ e j _. n (rw e (rw (sym i) j)))) };
   ready = λ f y r k. next f y (v .ready f y r k .0) (v .ready f y r k .1);
 }
   where
@@ -104,7 +104,7 @@ alone-more {z} {a} {b} {s} {m} {p} {o₀} {o₁} {o₂} h i v w = record {
         RightSet (shape z) y (cells (shape z) o₁) (other (set-of s)) (track-length (shape z)) →
         Ready (shape z) f a b y (cells (shape z) o₂) (m + 1) × RightSet (shape z) y (cells (shape z) o₂) (other (set-of s)) (track-length (shape z))
     next f y r k =
-        let w′ = w .made f y (rw i (r .planned (set-of s))) (r .good) (r .right) (λ _. k) in
+        let w′ = made-tracks f y h w (rw i (r .planned (set-of s))) (r .good) (r .right) (λ _. k) in
         let k′ = still-set (omega arith) (w′ .still) k in (
           ready-on h r (w′ .still) (both-sets (λ c. (t : ℕ) → t < tracks (shape z) c → cells (shape z) o₂ c t m ≡ y c t m) (set-of s)
               (w′ .cell) (λ t l. k′ .cell t m l h)),
@@ -218,6 +218,7 @@ module _ {z : Sizes} {a b : Plan} {Given : TrackFlags → Cells → Type 0} {out
 pub ahead-none : {z : Sizes} {s t from : ℕ} {out syn : List ℕ} → Kept z out syn → Ahead z s t from from out out syn
 ahead-none k = record {
   kept = k;
+  order = omega arith;
   only = λ r u q l b n. refl;
   still = λ y g rest. record { cell = λ r u q l b e. e };
   right = λ y g rest l q h b. absurd (omega arith);
@@ -228,47 +229,55 @@ pub ahead-more : {z : Sizes} {s t from p : ℕ} {o₀ o₁ o₂ n₁ n₂ : List
     ByVertical z s t p o₁ o₂ n₂ → Ahead z s t from (p + 1) o₀ o₂ n₂
 ahead-more {z} {s} {t} {from} {p} {o₀} {o₁} {o₂} h v w = record {
   kept = w .kept;
-  only = λ r u q l b n. w .there r u q l b (λ i j _. n i j) ∙ v .only r u q l b n;
-  still = λ y g rest. still-both (v .still y g rest) (now y g rest .still);
+  order = omega (arith, v .order);
+  only = λ r u q l b n. w .there r u q l b (λ i j k. n i j (omega (arith, v .order)) (omega arith)) ∙ v .only r u q l b (λ i j a c. n i j a (omega arith));
+  still = λ y g rest. still-both (v .still y g (old y rest)) (now y g rest .still);
   right = λ y g rest l q a b. by-cases (decLt q p)
-      (λ k. now y g rest .still .cell (set-of s) t q l (omega arith) (v .right y g rest l q a k))
+      (λ k. now y g rest .still .cell (set-of s) t q l (omega arith) (v .right y g (old y rest) l q a k))
       (λ k. let e : q ≡ p = omega arith in rw e (now y g rest .cell l));
 }
   where
-    now : (y : Cells) → Good (shape z) y → Others z s t y o₀ → RightCell (shape z) y (cells (shape z) o₁) (cells (shape z) o₂) (set-of s) t p
+    old : (y : Cells) → Others z s t from (p + 1) y o₀ → Others z s t from p y o₀
+    old y rest u q i a b d = rest u q i a (omega arith) d
+
+    now : (y : Cells) → Good (shape z) y → Others z s t from (p + 1) y o₀ → RightCell (shape z) y (cells (shape z) o₁) (cells (shape z) o₂) (set-of s) t p
     now y g rest = right-cell y w (λ l. (
       l,
       by-vertical (shape z) (cells (shape z) o₁) y g (set-of s) t p l h
-          (λ u i d. v .only (set-of s) u p i h (λ _ e. d e) ∙ rest u p i h d),
+          (λ u i d. v .only (set-of s) u p i h (λ _ e _ _. d e) ∙ rest u p i (v .order) (omega arith) d),
     ))
 
 -- One stretch after the other.
-pub ahead-join : {z : Sizes} {s t from mid to : ℕ} {o₀ o₁ o₂ n₁ n₂ : List ℕ} → mid ≤ track-length (shape z) → Ahead z s t from mid o₀ o₁ n₁ → Ahead z s t mid to o₁ o₂ n₂ →
+pub ahead-join : {z : Sizes} {s t from mid to : ℕ} {o₀ o₁ o₂ n₁ n₂ : List ℕ} → to ≤ track-length (shape z) → Ahead z s t from mid o₀ o₁ n₁ → Ahead z s t mid to o₁ o₂ n₂ →
     Ahead z s t from to o₀ o₂ n₂
 ahead-join {z} {s} {t} {from} {mid} {to} {o₀} {o₁} {o₂} h v w = record {
   kept = w .kept;
-  only = λ r u q l b n. w .only r u q l b n ∙ v .only r u q l b n;
-  still = λ y g rest. still-both (v .still y g rest) (w .still y g (on y rest));
+  order = omega (arith, v .order, w .order);
+  only = λ r u q l b n. w .only r u q l b (λ i j a c. n i j (omega (arith, v .order)) c) ∙ v .only r u q l b (λ i j a c. n i j a (omega (arith, w .order)));
+  still = λ y g rest. still-both (v .still y g (first y rest)) (w .still y g (second y rest));
   right = λ y g rest l q a b. by-cases (decLt q mid)
-      (λ k. w .still y g (on y rest) .cell (set-of s) t q l (omega arith) (v .right y g rest l q a k))
-      (λ k. w .right y g (on y rest) l q (omega arith) b);
+      (λ k. w .still y g (second y rest) .cell (set-of s) t q l (omega arith) (v .right y g (first y rest) l q a k))
+      (λ k. w .right y g (second y rest) l q (omega arith) b);
 }
   where
-    on : (y : Cells) → Others z s t y o₀ → Others z s t y o₁
-    on y rest u q l b d = v .only (set-of s) u q l b (λ _ e. d e) ∙ rest u q l b d
+    first : (y : Cells) → Others z s t from to y o₀ → Others z s t from mid y o₀
+    first y rest u q l a b d = rest u q l a (omega (arith, w .order)) d
+
+    second : (y : Cells) → Others z s t from to y o₀ → Others z s t mid to y o₁
+    second y rest u q l a b d = v .only (set-of s) u q l (omega arith) (λ _ e _ _. d e) ∙ rest u q l (omega (arith, v .order)) b d
 
 -- All tracks of the set, from one position up to another.
-ahead-all : {z : Sizes} {s t from to : ℕ} {out after syn : List ℕ} → to ≤ track-length (shape z) → Ahead z s t from to out after syn →
-    (y : Cells) → Good (shape z) y → Others z s t y out → (u q : ℕ) → u < tracks (shape z) (set-of s) → from ≤ q → q < to → cells (shape z) after (set-of s) u q ≡ y (set-of s) u q
+pub ahead-all : {z : Sizes} {s t from to : ℕ} {out after syn : List ℕ} → to ≤ track-length (shape z) → Ahead z s t from to out after syn →
+    (y : Cells) → Good (shape z) y → Others z s t from to y out → (u q : ℕ) → u < tracks (shape z) (set-of s) → from ≤ q → q < to → cells (shape z) after (set-of s) u q ≡ y (set-of s) u q
 ahead-all {z} {s} {t} h v y g rest u q l a b = by-cases (ℕ-discrete u t)
     (λ e. rw e (v .right y g rest (rw e at l) q a b))
-    (λ d. v .still y g rest .cell (set-of s) u q l (omega arith) (rest u q l (omega arith) d))
+    (λ d. v .still y g rest .cell (set-of s) u q l (omega arith) (rest u q l a b d))
 
 -- In a set with one named track at the most, all others are right.
-single-others : {z : Sizes} {f : TrackFlags} (y : Cells) (out : List ℕ) (s : ℕ) (p : Plan) → Planned (shape z) f (set-of s) p → Single (shape z) (set-of s) p →
+single-others : {z : Sizes} {f : TrackFlags} {from to : ℕ} → to ≤ track-length (shape z) → (y : Cells) (out : List ℕ) (s : ℕ) (p : Plan) → Planned (shape z) f (set-of s) p → Single (shape z) (set-of s) p →
     ((t q : ℕ) → t < tracks (shape z) (set-of s) → q < track-length (shape z) → f (set-of s) t ≡ false → cells (shape z) out (set-of s) t q ≡ y (set-of s) t q) →
-    Others z s (p .last) y out
-single-others {z} y out s p plan one clear t q l h d = clear t q l h (plan .others t l none)
+    Others z s (p .last) from to y out
+single-others {z} h y out s p plan one clear t q l a b d = clear t q l (omega arith) (plan .others t l none)
   where
     none : Named p t → ⊥
     none (is-low e) = omega (arith, one .no-low)
@@ -285,15 +294,15 @@ pub advanced-singles : {z : Sizes} {a b : Plan} {m e : ℕ} {o₀ o₁ o₂ o₃
     Ahead z 0 (a .last) m e o₁ o₂ n₂ → Ahead z 1 (b .last) m e o₂ o₃ n₃ → Advanced z a b 0 e o₀ o₃ n₃
 advanced-singles {z} {a} {b} {m} {e} {o₀} {o₁} {o₂} {o₃} h k one two p v w = record {
   kept = w .kept;
-  frame = record { same = λ s t q l i n. p .frame .same s t q l i n ∙ sym (v .only s t q l i (λ c j. n (rw c (is-last j)))) ∙ sym (w .only s t q l i (λ c j. n (rw c (is-last j)))) };
+  frame = record { same = λ s t q l i n. p .frame .same s t q l i n ∙ sym (v .only s t q l i (λ c j _ _. n (rw c (is-last j)))) ∙ sym (w .only s t q l i (λ c j _ _. n (rw c (is-last j)))) };
   ready = λ f y r. next f y (p .ready f y r);
 }
   where
     next : (f : TrackFlags) (y : Cells) → Ready (shape z) f a b y (cells (shape z) o₁) m → Ready (shape z) f a b y (cells (shape z) o₃) e
     next f y r =
-        let first : Others z 0 (a .last) y o₁ = single-others y o₁ 0 a (r .planned A) one (r .right .clear A) in
-        let second : Others z 1 (b .last) y o₂ =
-        λ u q l i d. v .only B u q l i (λ c _. apart (sym c)) ∙ single-others y o₁ 1 b (r .planned B) two (r .right .clear B) u q l i d in
+        let first : Others z 0 (a .last) m e y o₁ = single-others h y o₁ 0 a (r .planned A) one (r .right .clear A) in
+        let second : Others z 1 (b .last) m e y o₂ =
+        λ u q l i j d. v .only B u q l (omega arith) (λ c _ _ _. apart (sym c)) ∙ single-others h y o₁ 1 b (r .planned B) two (r .right .clear B) u q l i j d in
         let v′ = v .still y (r .good) first in
         let w′ = w .still y (r .good) second in
         let still = still-both v′ w′ in
@@ -337,7 +346,7 @@ module _ {z : Sizes} (a b : Plan) (s : ℕ) {o₀ o₁ n₁ : List ℕ} (one : S
   begun-set : (f : TrackFlags) (y : Cells) → Begun (shape z) f a b y (cells (shape z) o₀) →
       Ready (shape z) f a b y (cells (shape z) o₁) 0 × RightSet (shape z) y (cells (shape z) o₁) (set-of s) (track-length (shape z))
   begun-set f y g =
-      let rest : Others z s (plan-of a b (set-of s) .last) y o₀ = single-others y o₀ s _ (g .planned (set-of s)) one (g .clear (set-of s)) in
+      let rest : Others z s (plan-of a b (set-of s) .last) 0 (track-length (shape z)) y o₀ = single-others (omega arith) y o₀ s _ (g .planned (set-of s)) one (g .clear (set-of s)) in
       let still = v .still y (g .good) rest in
       let all : RightSet (shape z) y (cells (shape z) o₁) (set-of s) (track-length (shape z)) =
       record { cell = λ u q l h. ahead-all (omega arith) v y (g .good) rest u q l (omega arith) h } in (
@@ -355,7 +364,7 @@ module _ {z : Sizes} (a b : Plan) (s : ℕ) {o₀ o₁ n₁ : List ℕ} (one : S
   pub set-solved : {o₂ n₂ : List ℕ} {r : Bool} (t : ℕ) → other (set-of t) ≡ set-of s → SetSolved z t (plan-of a b (set-of t)) o₁ o₂ n₂ r → AllSolved z a b o₀ o₂ n₂ r
   set-solved {o₂} {n₂} {r} t i all = let d = all a b refl in record {
     kept = d .kept;
-    frame = record { same = λ c u q l h n. sym (v .only c u q l h (λ e j. n (rw e (is-last j)))) ∙ d .frame .same c u q l h n };
+    frame = record { same = λ c u q l h n. sym (v .only c u q l h (λ e j _ _. n (rw e (is-last j)))) ∙ d .frame .same c u q l h n };
     ready = λ e f y g. d .ready e f y (given f y g);
     none = λ e f y g. d .none e f y (given f y g);
   }

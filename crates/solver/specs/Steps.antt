@@ -76,28 +76,42 @@ pub record Ready (sh : Shape) (f : TrackFlags) (a b : Plan) (y x : Cells) (m : �
 
 -- ## Steps
 
--- One set is solved at m.
+-- No track below a plan's lowest is flagged, and no data track above its highest.
+pub record Fits (sh : Shape) (f : TrackFlags) (s : TrackSet) (p : Plan) : Type 0 where
+  pub low-data : p .low < tracks sh s → p .low ≤ data-tracks sh s
+  pub below : p .low < tracks sh s → (t : ℕ) → t < p .low → f s t ≡ false
+  pub high-data : p .high < tracks sh s → (0 < p .high) × (p .high ≤ data-tracks sh s)
+  pub above : p .high < tracks sh s → (t : ℕ) → p .high < t → t ≤ data-tracks sh s → f s t ≡ false
+
+-- What a step at m goes by. x agrees with y before m and, at m, on the set's tracks that the plan does not name. At a position of the data
+-- they also agree from m up to a lag on: on the tracks that f does not flag and, beside a highest track, on the other set.
+pub record Known (sh : Shape) (f : TrackFlags) (s : TrackSet) (p : Plan) (y x : Cells) (m : ℕ) : Type 0 where
+  pub before : (c : TrackSet) (t q : ℕ) → t < tracks sh c → q < m → x c t q ≡ y c t q
+  pub rest : (t : ℕ) → t < tracks sh s → (Named p t → ⊥) → x s t m ≡ y s t m
+  pub clear : m < sh .positions → (c : TrackSet) (t q : ℕ) → t < tracks sh c → f c t ≡ false → m ≤ q → q < m + lag sh → x c t q ≡ y c t q
+  pub across : m < sh .positions → p .high < tracks sh s → (t q : ℕ) → t < tracks sh (other s) → m ≤ q → q < m + lag sh → x (other s) t q ≡ y (other s) t q
+
+-- One set is solved at m. Only the cells of the plan's tracks at m are changed.
 pub record Stepped (z : Sizes) (s : ℕ) (p : Plan) (m : ℕ) (out after syn : List ℕ) : Type 0 where
   pub kept : Kept z after syn
-  pub only : (r : TrackSet) (u q : ℕ) → u < tracks (shape z) r → q < track-length (shape z) → (r ≡ set-of s → Named p u → ⊥) →
+  pub only : (r : TrackSet) (u q : ℕ) → u < tracks (shape z) r → q < track-length (shape z) → (r ≡ set-of s → Named p u → q ≡ m → ⊥) →
       cells (shape z) after r u q ≡ cells (shape z) out r u q
-  pub made : (f : TrackFlags) (y : Cells) → Planned (shape z) f (set-of s) p → Good (shape z) y →
-      Right (shape z) f y (cells (shape z) out) m →
-      (p .high < tracks (shape z) (set-of s) → RightSet (shape z) y (cells (shape z) out) (other (set-of s)) (track-length (shape z))) →
-      Made (shape z) y (cells (shape z) out) (cells (shape z) after) (set-of s) m
+  pub made : (f : TrackFlags) (y : Cells) → Fits (shape z) f (set-of s) p → Good (shape z) y →
+      Known (shape z) f (set-of s) p y (cells (shape z) out) m → Made (shape z) y (cells (shape z) out) (cells (shape z) after) (set-of s) m
 
--- All cells of a set but those of track t are y's.
-abbrev pub Others : Sizes → ℕ → ℕ → Cells → List ℕ → Type 0
-Others z s t y out =
-    (u q : ℕ) → u < tracks (shape z) (set-of s) → q < track-length (shape z) → u ≢ t → cells (shape z) out (set-of s) u q ≡ y (set-of s) u q
+-- From one position up to another all cells of a set but those of track t are y's.
+abbrev pub Others : Sizes → ℕ → ℕ → ℕ → ℕ → Cells → List ℕ → Type 0
+Others z s t from to y out =
+    (u q : ℕ) → u < tracks (shape z) (set-of s) → from ≤ q → q < to → u ≢ t → cells (shape z) out (set-of s) u q ≡ y (set-of s) u q
 
--- Track t of a set is made right from one position up to another, if all its other tracks are right.
+-- Track t of a set is made right from one position up to another, if all its other tracks are right there. No other cell is changed.
 pub record Ahead (z : Sizes) (s t from to : ℕ) (out after syn : List ℕ) : Type 0 where
   pub kept : Kept z after syn
-  pub only : (r : TrackSet) (u q : ℕ) → u < tracks (shape z) r → q < track-length (shape z) → (r ≡ set-of s → u ≡ t → ⊥) →
+  pub order : from ≤ to
+  pub only : (r : TrackSet) (u q : ℕ) → u < tracks (shape z) r → q < track-length (shape z) → (r ≡ set-of s → u ≡ t → from ≤ q → q < to → ⊥) →
       cells (shape z) after r u q ≡ cells (shape z) out r u q
-  pub still : (y : Cells) → Good (shape z) y → Others z s t y out → Still (shape z) y (cells (shape z) out) (cells (shape z) after)
-  pub right : (y : Cells) → Good (shape z) y → Others z s t y out → t < tracks (shape z) (set-of s) →
+  pub still : (y : Cells) → Good (shape z) y → Others z s t from to y out → Still (shape z) y (cells (shape z) out) (cells (shape z) after)
+  pub right : (y : Cells) → Good (shape z) y → Others z s t from to y out → t < tracks (shape z) (set-of s) →
       (q : ℕ) → from ≤ q → q < to → cells (shape z) after (set-of s) t q ≡ y (set-of s) t q
 
 -- Both sets are solved from one position up to another.

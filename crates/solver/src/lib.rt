@@ -105,7 +105,7 @@ fn by_own(out: &mut [u8], syn: &mut [u8], z: Sizes, s: usize, t: usize, p: usize
 }
 
 // The same by the vertical.
-fn by_vertical(out: &mut [u8], syn: &mut [u8], z: Sizes, s: usize, t: usize, p: usize)
+pub fn by_vertical(out: &mut [u8], syn: &mut [u8], z: Sizes, s: usize, t: usize, p: usize)
     requires { ⌜ Kept z (now out) (now syn) ⌝ }
     requires { ⌜ s < 2 ⌝ }
     requires { ⌜ p < track-length (shape z) ⌝ }
@@ -209,7 +209,7 @@ fn last_at(out: &mut [u8], syn: &mut [u8], z: Sizes, s: usize, t: usize, line: L
 }
 
 // Solves a set at a position of the data.
-fn step(
+pub fn step(
     out: &mut [u8],
     syn: &mut [u8],
     z: Sizes,
@@ -257,7 +257,7 @@ fn step_two(
 }
 
 // Solves a set at a position of the tail.
-fn tail_step(out: &mut [u8], syn: &mut [u8], z: Sizes, s: usize, plan: Plan, m: usize)
+pub fn tail_step(out: &mut [u8], syn: &mut [u8], z: Sizes, s: usize, plan: Plan, m: usize)
     requires { ⌜ Kept z (now out) (now syn) ⌝ }
     requires { ⌜ s < 2 ⌝ }
     requires { ⌜ z .positions ≤ m ⌝ }
@@ -294,7 +294,15 @@ fn next(m: usize) -> usize
 }
 
 // Makes one track of a set right by the verticals, at the positions of the data from `from` up to `to`.
-fn verticals(out: &mut [u8], syn: &mut [u8], z: Sizes, s: usize, t: usize, from: usize, to: usize)
+pub fn verticals(
+    out: &mut [u8],
+    syn: &mut [u8],
+    z: Sizes,
+    s: usize,
+    t: usize,
+    from: usize,
+    to: usize,
+)
     requires { ⌜ Kept z (now out) (now syn) ⌝ }
     requires { ⌜ s < 2 ⌝ }
     requires { ⌜ from ≤ to ⌝ }
@@ -362,7 +370,7 @@ fn quiet(syn: &[u8], z: Sizes) -> usize
 }
 
 // Does a plan name one track at the most?
-fn is_single(z: Sizes, s: usize, plan: Plan) -> bool
+pub fn is_single(z: Sizes, s: usize, plan: Plan) -> bool
     requires { ⌜ Small z ⌝ }
     ensures { λ r. ⌜ SingleTested (shape z) (set-of s) plan r ⌝ }
 {

@@ -6,3 +6,4 @@ pub mod Gathering
 pub mod Turning
 pub mod Testing
 pub mod Adding
+pub mod Copies

@@ -7,10 +7,13 @@ use native.Mathlib.Omega.{arith}
 use borrow.Author.Tests.{eqb-true}
 use lib.ListN.{length, getD}
 use lib.Seq.{ext-getD}
+use Rattle.code.specs.Record.{TrackSet, Shape, tracks, track-length, Cells}
+use Rattle.code.specs.Image.{cells}
 use Rattle.code.specs.Lost.{read-values, is-lost}
 use Rattle.code.specs.Reach.{pick}
-use Rattle.code.specs.Flags.{any}
-use Rattle.code.proofs.Lost.{any-none, bit-known}
+use Rattle.code.specs.Flags.{CellFlags, AgreeOff, any}
+use Rattle.code.proofs.Any.{any-none}
+use Rattle.code.proofs.Lost.{bit-known}
 use Rattle.code.proofs.Patterns.{none-flagged}
 use Rattle.track.specs.Track.{Bits, Readings, known-cell, known, Highest}
 
@@ -44,6 +47,17 @@ known-bits xs r = record { bit = λ i. rw (known-at xs i) (known-cell-bit _ (r .
 -- A list of bits is its own working copy.
 pub known-same : (xs : List ℕ) → ((i : ℕ) → getD xs i 0 < 2) → known xs ≡ xs
 known-same xs bits = ext-getD 0 (known xs) xs (length-known xs) (λ i h. known-at xs i ∙ cell-known _ (bit-known _ (bits i)))
+
+-- Flags by cells that flag every lost cell of an image. Off them a working copy is the image.
+abbrev pub LostCovered : Shape → CellFlags → List ℕ → Type 0
+LostCovered sh flag image = (s : TrackSet) (t m : ℕ) → t < tracks sh s → m < track-length sh → flag s t m ≡ false → is-lost (cells sh image s t m) ≡ false
+
+module _ (sh : Shape) (flag : CellFlags) (image : List ℕ) (covered : LostCovered sh flag image) where
+  pub copy-agree : AgreeOff sh flag (cells sh image) (cells sh (known image))
+  copy-agree = record { cell = λ s t m l b e. sym (known-at image _ ∙ cell-known _ (covered s t m l b e)) }
+
+  pub agree-copy : (y : Cells) → AgreeOff sh flag (cells sh image) y → AgreeOff sh flag (cells sh (known image)) y
+  agree-copy y a = record { cell = λ s t m l b e. sym (copy-agree .cell s t m l b e) ∙ a .cell s t m l b e }
 
 -- ## The highest byte
 

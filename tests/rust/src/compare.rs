@@ -1,21 +1,23 @@
 //! The comparison of the archive with document 01's examples and with the second decoder, in classes of inputs: each
-//! takes its generator, the number of rounds and the tally. The last three classes are those of packing and unpacking,
-//! the seven before them those of lost cells, and the one before these that of records of no blocks, which are in most
-//! other classes too.
+//! takes its generator, the number of rounds and the tally. The last seven classes are those of flags by stretch, in
+//! spans.rs, the three before them those of packing and unpacking, the seven before these those of lost cells, and the one
+//! before these that of records of no blocks, which are in most other classes too.
 
 use crate::damage::{damage, lose, Random};
 use crate::ffi::{Answer, Call, LOST};
 use crate::second::{base, changed, code, expected, extra, lost_tracks, number, Rules, Shape};
+use crate::spans;
 
 /// The answers that there are: 0 and the numbers.
-pub const ANSWERS: usize = 9;
+pub const ANSWERS: usize = 10;
 
 /// The calls in the tally's order, and the answers that each can give.
-pub const CALLS: [(&str, &[usize]); 6] = [
+pub const CALLS: [(&str, &[usize]); 7] = [
     ("encode", &[0, 1, 2, 3]),
     ("read", &[0, 1, 2, 3, 4, 7]),
     ("repair", &[0, 1, 2, 3, 4, 5, 6, 7]),
     ("trace", &[0, 1, 2, 3, 4, 5, 6, 7]),
+    ("repair_spans", &[0, 1, 2, 3, 4, 6, 7, 9]),
     ("pack", &[0, 1, 2, 3, 4]),
     ("unpack", &[0, 1, 2, 3, 8]),
 ];
@@ -24,7 +26,7 @@ pub const CALLS: [(&str, &[usize]); 6] = [
 pub type Class = fn(&mut Random, u64, &mut Tally);
 
 /// The classes, by the name that their generator has too.
-pub const CLASSES: [(&str, Class); 20] = [
+pub const CLASSES: [(&str, Class); 27] = [
     ("examples", examples),
     ("every_block_count", every_block_count),
     ("every_payload_bit", every_payload_bit),
@@ -45,6 +47,13 @@ pub const CLASSES: [(&str, Class); 20] = [
     ("packed_and_back", packed_and_back),
     ("padding", padding),
     ("packed_lengths", packed_lengths),
+    ("span_tables", spans::span_tables),
+    ("span_bursts", spans::span_bursts),
+    ("span_windows", spans::span_windows),
+    ("span_lost_cells", spans::span_lost_cells),
+    ("span_tracks", spans::span_tracks),
+    ("every_span", spans::every_span),
+    ("span_lengths", spans::span_lengths),
 ];
 
 /// The compared calls: calls of the archive of which the answer and every byte of the output were compared.
@@ -67,7 +76,7 @@ impl Tally {
 
     /// Calls the archive on an output of so many random bytes. Panics with the input's description where the answer, a
     /// byte of the output or one of the eight bytes behind it is not as the second decoder says.
-    fn compare(&mut self, random: &mut Random, call: Call, blocks: u32, input: &[u8], room: usize) -> (Answer, Vec<u8>) {
+    pub fn compare(&mut self, random: &mut Random, call: Call, blocks: u32, input: &[u8], room: usize) -> (Answer, Vec<u8>) {
         let before = random.bytes(room + 8);
         let mut out = before.clone();
         let answer = call.make(blocks, input, &mut out[..room]);
@@ -89,8 +98,9 @@ impl Tally {
             Call::Read => 1,
             Call::Repair(_) => 2,
             Call::Trace(_) => 3,
-            Call::Pack => 4,
-            Call::Unpack => 5,
+            Call::RepairSpans(_) => 4,
+            Call::Pack => 5,
+            Call::Unpack => 6,
         };
         self.counts[row][answer.answer as usize] += 1;
         out.truncate(room);
@@ -98,7 +108,7 @@ impl Tally {
     }
 
     /// A random payload, encoded: the record.
-    fn record(&mut self, random: &mut Random, blocks: u32) -> Vec<u8> {
+    pub fn record(&mut self, random: &mut Random, blocks: u32) -> Vec<u8> {
         let shape = Shape::base(blocks);
         let payload = random.bytes(shape.payload_size());
         let room = shape.size() + random.below(20);
@@ -247,12 +257,12 @@ fn in_reach(code: u32, [a, b]: [usize; 2]) -> bool {
 }
 
 /// A block count up to 12.
-fn few_blocks(random: &mut Random) -> u32 {
+pub fn few_blocks(random: &mut Random) -> u32 {
     random.below(13) as u32
 }
 
 /// A block count up to 12, and in one of 16 cases any.
-fn some_blocks(random: &mut Random) -> u32 {
+pub fn some_blocks(random: &mut Random) -> u32 {
     match random.below(16) {
         0 => random.below(257) as u32,
         _ => few_blocks(random),
@@ -260,7 +270,7 @@ fn some_blocks(random: &mut Random) -> u32 {
 }
 
 /// Up to so many tracks.
-fn some_tracks(random: &mut Random, shape: Shape, most: usize) -> u32 {
+pub fn some_tracks(random: &mut Random, shape: Shape, most: usize) -> u32 {
     let count = random.below(most + 1);
     random.tracks(shape, count)
 }
@@ -278,7 +288,7 @@ fn some_flags(random: &mut Random, shape: Shape, tracks: u32) -> u32 {
 }
 
 /// The block count of the lengths, and the one that is asked for, which is near to it or not.
-fn some_counts(random: &mut Random) -> (u32, u32) {
+pub fn some_counts(random: &mut Random) -> (u32, u32) {
     let near = match random.below(80) {
         0 => 256,
         1 => 257,
@@ -305,7 +315,7 @@ fn some_lost(random: &mut Random, shape: Shape) -> u32 {
 }
 
 /// So many tracks of a set that are none of these.
-fn tracks_of(random: &mut Random, shape: Shape, set: usize, count: usize, others: u32) -> u32 {
+pub fn tracks_of(random: &mut Random, shape: Shape, set: usize, count: usize, others: u32) -> u32 {
     let mut word: u32 = 0;
     while (word.count_ones() as usize) < count {
         word |= 1 << shape.track_number(set, random.below(shape.tracks(set))) & !others;
@@ -322,14 +332,14 @@ fn some_value(random: &mut Random, least: u8) -> u8 {
 }
 
 /// Up to two cells of any value from this up.
-fn bad_cells(random: &mut Random, image: &mut [u8], least: u8) {
+pub fn bad_cells(random: &mut Random, image: &mut [u8], least: u8) {
     for _ in 0..random.below(6).saturating_sub(3) {
         image[random.below(image.len())] = some_value(random, least);
     }
 }
 
 /// An input one byte shorter, one longer, much shorter, or as it was.
-fn some_length(random: &mut Random, input: &mut Vec<u8>) {
+pub fn some_length(random: &mut Random, input: &mut Vec<u8>) {
     match random.below(16) {
         0 => drop(input.pop()),
         1 => input.push(0),
@@ -339,7 +349,7 @@ fn some_length(random: &mut Random, input: &mut Vec<u8>) {
 }
 
 /// An output's length: one byte less than the result's, much less, just that, or more.
-fn some_room(random: &mut Random, result: usize) -> usize {
+pub fn some_room(random: &mut Random, result: usize) -> usize {
     match random.below(16) {
         0 => result.saturating_sub(1),
         1 => random.below(result + 1),

@@ -1,4 +1,4 @@
-//! The archive's six calls, as C programs see them.
+//! The archive's seven calls, as C programs see them.
 
 /// `axp_result` of include/axp.h.
 #[repr(C)]
@@ -12,6 +12,14 @@ pub struct Answer {
     pub extra_b: u32,
 }
 
+/// `axp_span`: the index of a stretch's first cell, and the number of its cells.
+#[repr(C)]
+#[derive(Clone, Copy, Debug, PartialEq, Eq)]
+pub struct Span {
+    pub offset: u32,
+    pub length: u32,
+}
+
 /// `AXP_NO_EXTRA`.
 pub const NO_EXTRA: u32 = u32::MAX;
 
@@ -23,22 +31,24 @@ extern "C" {
     fn axp_read(blocks: u32, image: *const u8, image_len: usize, out: *mut u8, out_len: usize) -> Answer;
     fn axp_repair(blocks: u32, flags: u32, image: *const u8, image_len: usize, out: *mut u8, out_len: usize) -> Answer;
     fn axp_trace(blocks: u32, flags: u32, image: *const u8, image_len: usize, out: *mut u8, out_len: usize) -> Answer;
+    fn axp_repair_spans(blocks: u32, spans: *const Span, spans_len: usize, image: *const u8, image_len: usize, out: *mut u8, out_len: usize) -> Answer;
     fn axp_pack(blocks: u32, image: *const u8, image_len: usize, out: *mut u8, out_len: usize) -> Answer;
     fn axp_unpack(blocks: u32, packed: *const u8, packed_len: usize, out: *mut u8, out_len: usize) -> Answer;
 }
 
-/// A call, with its flags where it takes some.
+/// A call, with its flags or its table where it takes some.
 #[derive(Clone, Copy, Debug, PartialEq, Eq)]
-pub enum Call {
+pub enum Call<'a> {
     Encode,
     Read,
     Repair(u32),
     Trace(u32),
+    RepairSpans(&'a [Span]),
     Pack,
     Unpack,
 }
 
-impl Call {
+impl Call<'_> {
     /// Calls the archive.
     pub fn make(self, blocks: u32, input: &[u8], out: &mut [u8]) -> Answer {
         let (from, from_len) = (input.as_ptr(), input.len());
@@ -49,6 +59,9 @@ impl Call {
                 Call::Read => axp_read(blocks, from, from_len, to, to_len),
                 Call::Repair(flags) => axp_repair(blocks, flags, from, from_len, to, to_len),
                 Call::Trace(flags) => axp_trace(blocks, flags, from, from_len, to, to_len),
+                Call::RepairSpans(spans) => {
+                    axp_repair_spans(blocks, spans.as_ptr(), spans.len(), from, from_len, to, to_len)
+                }
                 Call::Pack => axp_pack(blocks, from, from_len, to, to_len),
                 Call::Unpack => axp_unpack(blocks, from, from_len, to, to_len),
             }

@@ -3,3 +3,4 @@ pub mod compare;
 pub mod damage;
 pub mod ffi;
 pub mod second;
+pub mod spans;

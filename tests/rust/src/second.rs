@@ -3,9 +3,10 @@
 //! unknown cell gives it) and, where that stalls, by elimination, which also tells whether there are two solutions.
 //! Packing is document 02's note 1, bit after bit. Cells that a drive could not read are its note 2: `reading` alone
 //! tells what a byte of an image is, and the tracks with a lost cell join the flags before anything is looked up. The
-//! record of no blocks is its note 3: the same rules, over the tail alone.
+//! record of no blocks is its note 3: the same rules, over the tail alone. Flags by stretch are its note 5: the unknown
+//! cells are those of the table and the lost ones, and the tracks of each window are looked up one window after the other.
 
-use crate::ffi::{Answer, Call, LOST, NO_EXTRA};
+use crate::ffi::{Answer, Call, Span, LOST, NO_EXTRA};
 use std::sync::OnceLock;
 
 /// The closing of the tail: rule 3 carries the vertical tracks through it, or they are 0 there.
@@ -418,6 +419,35 @@ pub fn code(shape: Shape, flags: u32) -> u32 {
     }
 }
 
+/// Is a table in order, for an image of so many cells?
+pub fn in_order(spans: &[Span], cells: usize) -> bool {
+    let end = |span: &Span| span.offset as u64 + span.length as u64;
+    spans.len() <= 64
+        && spans.iter().all(|span| span.length != 0 && end(span) <= cells as u64)
+        && spans.windows(2).all(|pair| end(&pair[0]) <= pair[1].offset as u64)
+}
+
+/// The flagged cells of an image: those in a pair of the table, and the lost ones, not their tracks.
+pub fn flagged_cells(spans: &[Span], image: &[u8]) -> Vec<bool> {
+    let mut flagged: Vec<bool> = image.iter().map(|&x| reading(x) == Some(Reading::Lost)).collect();
+    for span in spans {
+        flagged[span.offset as usize..][..span.length as usize].fill(true);
+    }
+    flagged
+}
+
+/// The word of the tracks with a flagged cell among `count` positions from m on, or to the tail's end.
+pub fn tracks_from(shape: Shape, flagged: &[bool], m: usize, count: usize) -> u32 {
+    let end = (m + count).min(shape.length());
+    let track = |g: usize| flagged[g * shape.length()..][m..end].contains(&true);
+    (0..shape.all_tracks()).filter(|&g| track(g)).map(|g| 1 << g).sum()
+}
+
+/// Has every position's window, m to m + 15, a code above 0?
+pub fn windows_coded(shape: Shape, flagged: &[bool]) -> bool {
+    (0..shape.length()).all(|m| code(shape, tracks_from(shape, flagged, m, 16)) != 0)
+}
+
 /// The extra tracks that the code allows, as words.
 pub fn choices(shape: Shape, flags: u32) -> Vec<u32> {
     let of = |set: usize| -> Vec<u32> {
@@ -516,7 +546,7 @@ pub fn expected(call: Call, blocks: u32, input: &[u8], before: &[u8]) -> (Answer
     let (input_len, result_len) = match call {
         Call::Encode => (shape.payload_size(), shape.size()),
         Call::Read => (shape.size(), shape.payload_size()),
-        Call::Repair(_) | Call::Trace(_) => (shape.size(), shape.size()),
+        Call::Repair(_) | Call::Trace(_) | Call::RepairSpans(_) => (shape.size(), shape.size()),
         Call::Pack => (shape.size(), shape.packed_size()),
         Call::Unpack => (shape.packed_size(), shape.size()),
     };
@@ -543,6 +573,14 @@ pub fn expected(call: Call, blocks: u32, input: &[u8], before: &[u8]) -> (Answer
     }
     let rules = base(blocks);
     let (word, extras) = match call {
+        Call::RepairSpans(spans) if !in_order(spans, input.len()) => return refused(9, 0),
+        Call::RepairSpans(spans) => {
+            let unknown = flagged_cells(spans, input);
+            if !windows_coded(shape, &unknown) {
+                return refused(6, 0);
+            }
+            return reached(rules, &unknown, &[0], input, before);
+        }
         Call::Repair(word) => (word, false),
         Call::Trace(word) => (word, true),
         _ if rules.is_good(input) => return result(&payload(shape, input)),

@@ -107,3 +107,38 @@ fn padding() {
 fn packed_lengths() {
     compare("packed_lengths");
 }
+
+#[test]
+fn span_tables() {
+    compare("span_tables");
+}
+
+#[test]
+fn span_bursts() {
+    compare("span_bursts");
+}
+
+#[test]
+fn span_windows() {
+    compare("span_windows");
+}
+
+#[test]
+fn span_lost_cells() {
+    compare("span_lost_cells");
+}
+
+#[test]
+fn span_tracks() {
+    compare("span_tracks");
+}
+
+#[test]
+fn every_span() {
+    compare("every_span");
+}
+
+#[test]
+fn span_lengths() {
+    compare("span_lengths");
+}

@@ -40,6 +40,7 @@ fn from_source(source: &str) -> Vec<String> {
                 match t.trim() {
                     "u32" => format!("uint32_t {n}"),
                     "&[u8]" => format!("const uint8_t *{n}, size_t {n}_len"),
+                    "&[Span]" => format!("const axp_span *{n}, size_t {n}_len"),
                     "&mut [u8]" => format!("uint8_t *{n}, size_t {n}_len"),
                     other => panic!("{name}: a parameter of type {other}"),
                 }
@@ -59,7 +60,7 @@ fn between<'a>(text: &'a str, from: &str, to: &str) -> &'a str {
 fn calls() {
     let header = folded(&file("include/axp.h"));
     let wanted = from_source(&file("crates/axp_c/src/lib.rt"));
-    assert_eq!(wanted.len(), 6);
+    assert_eq!(wanted.len(), 7);
     for call in &wanted {
         assert!(header.contains(call.as_str()), "include/axp.h does not declare: {call}");
     }
@@ -67,23 +68,32 @@ fn calls() {
     assert_eq!(header.matches("axp_result axp_").count(), wanted.len());
 }
 
+/// The fields of a C struct, and those of the Rattle struct that it is, in order.
+fn fields(c: &str, source: &str, rattle: &str) -> [Vec<String>; 2] {
+    let header = folded(&file("include/axp.h"));
+    let declared = between(&header, &format!("typedef struct {c} {{"), "}").to_string();
+    let source = file(source);
+    let struct_ = between(&source, &format!("#[repr(C)]\npub struct {rattle} {{"), "}");
+    let listed = |text: &str, by: char| -> Vec<String> {
+        text.split(by).map(|f| f.trim().to_string()).filter(|f| !f.is_empty()).collect()
+    };
+    let as_c = |field: &String| {
+        let (n, t) = field.strip_prefix("pub ").unwrap().split_once(": ").unwrap();
+        assert_eq!(t, "u32", "{n}");
+        format!("uint32_t {n}")
+    };
+    [listed(&declared, ';'), listed(struct_, ',').iter().map(as_c).collect()]
+}
+
 #[test]
 fn result() {
-    let header = folded(&file("include/axp.h"));
-    let fields = between(&header, "typedef struct axp_result {", "}");
-    let c: Vec<&str> = fields.split(';').map(str::trim).filter(|f| !f.is_empty()).collect();
-    let source = file("crates/axp_c/src/lib.rt");
-    let declared = between(&source, "#[repr(C)]\npub struct AxpResult {", "}");
-    let rattle: Vec<String> = declared
-        .split(',')
-        .map(str::trim)
-        .filter(|f| !f.is_empty())
-        .map(|f| {
-            let (n, t) = f.strip_prefix("pub ").unwrap().split_once(": ").unwrap();
-            assert_eq!(t, "u32", "{n}");
-            format!("uint32_t {n}")
-        })
-        .collect();
+    let [c, rattle] = fields("axp_result", "crates/axp_c/src/lib.rt", "AxpResult");
+    assert_eq!(c, rattle);
+}
+
+#[test]
+fn span() {
+    let [c, rattle] = fields("axp_span", "crates/code/src/lib.rt", "Span");
     assert_eq!(c, rattle);
 }
 
@@ -102,8 +112,12 @@ fn constants() {
     assert!(header.contains(&format!("#define AXP_MAX_IMAGE_SIZE {}\n", 18 * (8 * 256 + 15))));
     assert!(header.contains(&format!("#define AXP_MAX_PAYLOAD_SIZE {}\n", 14 * 256)));
     assert!(header.contains(&format!("#define AXP_MAX_PACKED_SIZE {}\n", 18 * (256 + 2))));
-    // The numbers are document 01's, 0 to 7 in order, and 8 of document 02.
+    // The most pairs of a table.
+    let spans = file("crates/code/specs/Spans.antt");
+    let most = between(&spans, "too-long : ", " < table .count");
+    assert!(header.contains(&format!("#define AXP_MAX_SPANS {most}\n")));
+    // The numbers are document 01's, 0 to 7 in order, and 8 and 9 of document 02.
     let list = folded(between(&header, "enum axp_answer {", "};"));
     let values: Vec<u32> = list.split(',').map(|e| e.split('=').nth(1).unwrap().trim().parse().unwrap()).collect();
-    assert_eq!(values, (0..9).collect::<Vec<u32>>());
+    assert_eq!(values, (0..10).collect::<Vec<u32>>());
 }

@@ -1,12 +1,12 @@
 //! The second decoder against the rules themselves, for other shapes than document 01's: unequal sets, no blocks, open
 //! tails, and unknown cells that are no whole tracks. Its packing against note 1 of document 02, its lost cells against
-//! note 2 and its record of no blocks against note 3, worked out by hand.
+//! note 2, its record of no blocks against note 3 and its flags by stretch against note 5, worked out by hand.
 
 use axp_tests::damage::{damage, lose, rounds, Random};
-use axp_tests::ffi::{Answer, Call, LOST};
+use axp_tests::ffi::{Answer, Call, Span, LOST};
 use axp_tests::second::{
-    base, choices, code, encode, expected, is_bit, lost_tracks, number, pack, payload, reached, reading, unpack,
-    Closing, Reading, Rules, Shape,
+    base, choices, code, encode, expected, in_order, is_bit, lost_tracks, number, pack, payload, reached, reading, tracks_from,
+    unpack, windows_coded, Closing, Reading, Rules, Shape,
 };
 
 const SIZES: [(usize, usize); 5] = [(1, 1), (1, 7), (7, 3), (3, 2), (7, 7)];
@@ -24,13 +24,6 @@ fn sure(shape: Shape, flags: u32) -> bool {
         (flags & shape.word(set)).count_ones() == 3 && flags >> shape.track_number(1 - set, 0) & 1 == 1
     };
     within(shape, flags) && (shape.closing == Closing::Closed || !three_beside(0) && !three_beside(1))
-}
-
-/// The tracks with an unknown cell among `count` positions from m on.
-fn tracks_from(shape: Shape, unknown: &[bool], m: usize, count: usize) -> u32 {
-    let end = (m + count).min(shape.length());
-    let cells = |g: usize| g * shape.length() + m..g * shape.length() + end;
-    (0..shape.all_tracks()).filter(|&g| unknown[cells(g)].contains(&true)).map(|g| 1 << g).sum()
 }
 
 /// A random record is recovered, whatever stands in the unknown cells; with one more cell turned over, that could have
@@ -403,7 +396,7 @@ fn gives(blocks: u32, call: Call, cells: &[(usize, u8)], wanted: Answer) {
     let image = bytes(size, cells);
     let mut after = match (wanted.answer, call) {
         (0, _) => vec![0; size],
-        (7, Call::Repair(_) | Call::Trace(_)) => image.clone(),
+        (7, Call::Repair(_) | Call::Trace(_) | Call::RepairSpans(_)) => image.clone(),
         _ => vec![9; size],
     };
     after.push(9);
@@ -600,4 +593,75 @@ fn no_lost_cells() {
             assert!(expected(call, blocks, &image, &before) == wanted, "{call:?}, blocks {blocks}");
         }
     }
+}
+
+/// Pairs of offset and length.
+fn spans<const N: usize>(pairs: [(u32, u32); N]) -> [Span; N] {
+    pairs.map(|(offset, length)| Span { offset, length })
+}
+
+#[test]
+fn tables_in_order() {
+    let taken = |pairs: &[Span]| in_order(pairs, 414);
+    assert!(taken(&[]) && taken(&spans([(0, 414)])) && taken(&spans([(413, 1)])) && taken(&spans([(5, 3), (8, 1), (100, 2)])));
+    let many: Vec<Span> = (0..65).map(|k| Span { offset: 2 * k, length: 1 }).collect();
+    assert!(taken(&many[..64]));
+    // 65 pairs; a length 0; beyond the image; before the previous pair's end; numbers that add past 32 bits.
+    assert!(!taken(&many));
+    assert!(!taken(&spans([(5, 0)])) && !taken(&spans([(5, 1), (6, 0), (7, 1)])));
+    assert!(!taken(&spans([(0, 415)])) && !taken(&spans([(414, 1)])) && !taken(&spans([(413, 2)])));
+    assert!(!taken(&spans([(5, 3), (7, 1)])) && !taken(&spans([(5, 1), (5, 1)])) && !taken(&spans([(9, 1), (3, 1)])));
+    assert!(!taken(&spans([(u32::MAX, 1)])) && !taken(&spans([(2, u32::MAX)])) && !taken(&spans([(u32::MAX, u32::MAX)])));
+}
+
+#[test]
+fn windows() {
+    // Two blocks, 31 positions. Three cells of A at m, and a fourth 15 positions later or 16; the same to the tail's end.
+    let shape = Shape::base(2);
+    let l = shape.length();
+    for m in 0..l {
+        for apart in 1..l - m {
+            let mut flagged = vec![false; shape.size()];
+            [0, 3, 8].iter().for_each(|t| flagged[t * l + m] = true);
+            flagged[5 * l + m + apart] = true;
+            assert_eq!(windows_coded(shape, &flagged), apart >= 16, "{m}, {apart}");
+            // In the other set it may be as near as it likes, but not a second one.
+            flagged[5 * l + m + apart] = false;
+            flagged[12 * l + m + apart] = true;
+            assert!(windows_coded(shape, &flagged), "{m}, {apart}");
+            flagged[14 * l + m] = true;
+            assert_eq!(windows_coded(shape, &flagged), apart >= 16, "{m}, {apart}");
+        }
+    }
+}
+
+#[test]
+fn span_examples() {
+    // One block: A1 begins at 23, A2 at 46, A3 at 69, A4 at 92, B0 at 207. A flagged cell is made 0; one that is not is 7.
+    gives(1, Call::RepairSpans(&spans([(23, 1)])), &[(23, 1)], filled(2, 1));
+    gives(1, Call::RepairSpans(&spans([(22, 1), (24, 1)])), &[(23, 1)], number(7, 0));
+    // From the end of A1 into A2.
+    gives(1, Call::RepairSpans(&spans([(44, 4)])), &[(45, 1), (46, 1)], filled(6, 2));
+    // A lost cell alone is flagged: the rest of its track is not.
+    gives(1, Call::RepairSpans(&[]), &[(23, 2)], filled(2, 1));
+    gives(1, Call::RepairSpans(&[]), &[(23, 2), (45, 1)], number(7, 0));
+    gives(1, Call::RepairSpans(&spans([(45, 1)])), &[(23, 2), (45, 1)], filled(2, 2));
+    // Four tracks of A, the fourth 15 positions after the others or 16: 6, or repaired.
+    let four = |at: usize| [(0, 2), (23, 2), (46, 2), (69 + at, 2)];
+    gives(1, Call::RepairSpans(&[]), &four(15), number(6, 0));
+    gives(1, Call::RepairSpans(&[]), &four(16), filled(15, 4));
+    // Document 01's record of payload 128 without A(0,1).
+    let record = encode(base(1), &[128, 0, 0, 0, 0, 0, 0, 0, 0, 0, 0, 0, 0, 0]);
+    let mut image = record.clone();
+    image[23] = 0;
+    assert_eq!(expected(Call::RepairSpans(&spans([(20, 5)])), 1, &image, &[9; 414]), (filled(2, 1), record));
+    // The numbers in their order.
+    let image = bytes(414, &[(40, 3)]);
+    let late = spans([(0, 415)]);
+    refused(Call::RepairSpans(&late), 257, &image[1..], 0, (1, 0));
+    refused(Call::RepairSpans(&late), 1, &image[1..], 0, (2, 0));
+    refused(Call::RepairSpans(&late), 1, &image, 413, (3, 0));
+    refused(Call::RepairSpans(&late), 1, &image, 414, (4, 40));
+    refused(Call::RepairSpans(&late), 1, &bytes(414, &[(40, 2)]), 414, (9, 0));
+    refused(Call::RepairSpans(&spans([(0, 414)])), 1, &bytes(414, &[(40, 2)]), 414, (6, 0));
 }

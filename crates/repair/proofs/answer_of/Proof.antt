@@ -1,12 +1,10 @@
 -- `answer_of`: the answer is put together from the changes and the named extras.
-use mathlib.Core.Path.{_≡_, ap, _∙_}
-use Prim.Native.Nat.{ℕ, _+_}
+use mathlib.Core.Path.{_≡_}
+use Prim.Native.Nat.{_+_}
 use native.Mathlib.Omega.{arith}
-use denote.Ref.{now}
 use borrow.Author.Needs.{needs}
-use Rattle.code.specs.Record.{A, tracks, track-length}
+use Rattle.code.specs.Record.{A, tracks}
 use Rattle.code.specs.Sizes.{shape}
-use Rattle.repair.specs.Steps.{named-at}
 use Rattle.repair.proofs.Naming.{has-extra}
 use Rattle.repair.proofs.answer_of.Statement.{statement}
 use Rattle.repair.proofs.answer_of.Tie as tie

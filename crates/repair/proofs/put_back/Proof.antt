@@ -1,11 +1,11 @@
 -- `put_back`: where no cell is lost the working copy is the image.
 use mathlib.Core.Path.{sym, ap, _∙_}
 use native.Mathlib.Omega.{arith}
+use Rattle.track.proofs.Cells.{copied-all}
 use borrow.Author.Needs.{needs}
 use denote.Ref.{now}
 use lib.ListN.{length}
 use Rattle.track.proofs.Lost.{length-known, known-same}
-use Rattle.repair.proofs.Working.{copied-all}
 use Rattle.repair.proofs.put_back.Statement.{statement}
 use Rattle.repair.proofs.put_back.Tie as tie
 

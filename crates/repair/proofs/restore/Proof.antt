@@ -7,7 +7,8 @@ use borrow.Author.Needs.{needs}
 use denote.Ref.{now}
 use Rattle.track.specs.Track.{known}
 use Rattle.track.proofs.Lost.{length-known}
-use Rattle.repair.proofs.Stretches.{has-track, Restoring, restoring-none, restoring-by, restoring-back, restored}
+use Rattle.changes.proofs.Tracks.{has-track}
+use Rattle.repair.proofs.Stretches.{Restoring, restoring-none, restoring-by, restoring-back, restored}
 use Rattle.repair.proofs.restore.Statement.{statement}
 use Rattle.repair.proofs.restore.Tie as tie
 

@@ -1,8 +1,9 @@
 -- `try_choice`: the marks with the extras are those of the flags with the choice.
 use mathlib.Core.Path.{sym}
+use Rattle.track.proofs.Cells.{copied-all}
 use borrow.Author.Needs.{needs}
 use borrow.Author.Tests.{not-true, not-false}
-use Rattle.repair.proofs.Working.{copied-all, code-le, choice-workable, choice-tried, choice-passed}
+use Rattle.repair.proofs.Working.{code-le, choice-workable, choice-tried, choice-passed}
 use Rattle.repair.proofs.try_choice.Statement.{statement}
 use Rattle.repair.proofs.try_choice.Tie as tie
 

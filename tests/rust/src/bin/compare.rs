@@ -17,11 +17,11 @@ fn main() {
         class(&mut Random::named(seed, name), rounds, &mut tally);
         println!("{name:21}{:9} calls{:9.1} s", tally.total() - calls, time.elapsed().as_secs_f64());
     }
-    println!("\n{:8}{}", "answer", (0..ANSWERS).map(|n| format!("{n:9}")).collect::<String>());
+    println!("\n{:12}{}", "answer", (0..ANSWERS).map(|n| format!("{n:9}")).collect::<String>());
     let mut missing = Vec::new();
     for ((call, answers), counts) in CALLS.iter().zip(&tally.counts) {
         let cell = |n: usize| if answers.contains(&n) { format!("{:9}", counts[n]) } else { format!("{:>9}", "-") };
-        println!("{call:8}{}", (0..ANSWERS).map(cell).collect::<String>());
+        println!("{call:12}{}", (0..ANSWERS).map(cell).collect::<String>());
         missing.extend(answers.iter().filter(|&&n| counts[n] == 0).map(|n| format!("{call} {n}")));
     }
     println!("\n{} compared calls, {:.1} s", tally.total(), begin.elapsed().as_secs_f64());
