@@ -878,20 +878,28 @@ static size_t one_track(const uint8_t *marks, size_t s)
     return is_single(q) ? q.last : NONE;
 }
 
-/* The sets with one flagged cell at a position, by the verticals. */
-static void ones(uint8_t *restrict out, uint8_t *restrict syn, size_t l, const uint32_t *words, const uint32_t *near)
+/* Makes a track right by the verticals, at positions of the data or of the tail. */
+static void by_verticals(uint8_t *restrict out, uint8_t *restrict syn, size_t l, size_t s, size_t t, size_t from, size_t to)
 {
-    for (size_t m = 0, end; m < l; m = end) {
+    if (from < l - LAG)
+        verticals(out, syn, l, s, t, from, to);
+    else
+        for (size_t p = from; p < to; p++)
+            by_vertical(out, syn, l, s, t, p);
+}
+
+/* The sets with one flagged cell at a position of the data or of the tail, run by run. */
+static void ones_part(uint8_t *restrict out, uint8_t *restrict syn, size_t l, const uint32_t *words, const uint32_t *near, size_t from,
+                      size_t to)
+{
+    for (size_t m = from, end; m < to; m = end) {
         uint8_t marks[ALL];
-        end = run_end(words, near, m, l);
+        end = run_end(words, near, m, to);
         if (words[m] == 0)
             continue;
         marks_of(words[m], marks);
-        size_t a = one_track(marks, 0), b = one_track(marks, 1);
-        for (size_t p = m; p < end; p++) {
-            by_vertical(out, syn, l, 0, a, p);
-            by_vertical(out, syn, l, 1, b, p);
-        }
+        by_verticals(out, syn, l, 0, one_track(marks, 0), m, end);
+        by_verticals(out, syn, l, 1, one_track(marks, 1), m, end);
     }
 }
 
@@ -935,6 +943,8 @@ static void solve_part(uint8_t *restrict out, uint8_t *restrict syn, size_t l, c
         marks_of(words[m], marks);
         marks_of(near[m], wide);
         plan a = plan_at(marks, wide, 0), b = plan_at(marks, wide, 1);
+        if (is_single(a) && is_single(b))
+            continue;
         if (m < l - LAG)
             data_run(out, syn, l, a, b, m, end);
         else
@@ -964,7 +974,8 @@ axp_result plain_repair_spans(uint32_t blocks, const axp_span *spans, size_t spa
         return answer(6, 0);
     copy_known(out, image, image_len, lost);
     syndromes(out, l, syn);
-    ones(out, syn, l, words, near);
+    ones_part(out, syn, l, words, near, 0, l - LAG);
+    ones_part(out, syn, l, words, near, l - LAG, l);
     solve_part(out, syn, l, words, near, 0, l - LAG);
     solve_part(out, syn, l, words, near, l - LAG, l);
     if (is_good(out, syn, l)) {

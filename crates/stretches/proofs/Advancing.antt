@@ -21,6 +21,7 @@ use Rattle.solver.specs.Steps.{Still, Known, Stepped, Others, Ahead}
 use Rattle.solver.proofs.Stepping.{still-both, still-known}
 use Rattle.flags.specs.Marks.{Marks}
 use Rattle.flags.specs.Words.{word-cells}
+use Rattle.code.proofs.Same.{count-same}
 use Rattle.stretches.specs.Stretches.{Solved}
 use Rattle.stretches.specs.Steps.{flags-at, OneTrack, PlanAt, Suits, Ready, Advanced, OnesTo, AllTo, OnesWord, AllRun, AllWord}
 use Rattle.stretches.proofs.Planning.{zero-flags, suits-at, marks-at, one-same}
@@ -201,6 +202,31 @@ all-word-none {z} {word} k h e = record {
   kept = k;
   advanced = λ words near w alike. all-clear k h (λ s t q a b. zero-flags (shape z) (getD words q 0) (alike .word-at q a b ∙ e) s t);
 }
+
+-- With one flagged cell a set at the most.
+pub all-word-ones : {z : Sizes} {word wide from to : ℕ} {marks out syn : List ℕ} → Kept z out syn → to ≤ track-length (shape z) → Marks word marks →
+    flag-count (shape z) (marked (shape z) marks) A ≤ 1 → flag-count (shape z) (marked (shape z) marks) B ≤ 1 → AllWord z word wide from to out out syn
+all-word-ones {z} {word} {wide} {from} {to} {marks} k h m a b = record {
+  kept = k;
+  advanced = λ words near w alike. record {
+    kept = k;
+    only = record { cell = λ s t q l i e. refl };
+    ready = λ y r. record {
+      good = r .good;
+      clear = r .clear;
+      ones = r .ones;
+      before = λ s t q l i. by-cases (decLt q from) (λ j. r .before s t q l j)
+          (λ j. r .ones s t q l (omega arith) (few words q (alike .word-at q (omega arith) i) s));
+    };
+  };
+}
+  where
+    few : (words : List ℕ) (q : ℕ) → getD words q 0 ≡ word → (s : TrackSet) → flag-count (shape z) (flags-at (word-cells (shape z) words) q) s ≤ 1
+    few words q e s = omega (
+      arith,
+      in-each (λ s. flag-count (shape z) (marked (shape z) marks) s ≤ 1) a b s,
+      count-same (shape z) (marked (shape z) marks) (flags-at (word-cells (shape z) words) q) (marks-at z word marks (k .small) m words q e) s,
+    )
 
 -- With the tracks and plans of their marks.
 pub ones-word-run : {z : Sizes} {word a b from to : ℕ} {marks o₀ o₁ o₂ k₁ k₂ : List ℕ} → Small z → to ≤ track-length (shape z) → Marks word marks →

@@ -176,6 +176,17 @@ plan-kept sh f g s wide low high last plan fills covered a b c = record {
         none d d′ d″ (is-high e) = d′ e
         none d d′ d″ (is-last e) = d″ e
 
+-- Where the plan names one track at the most, one is flagged at the most.
+pub plan-single : {sh : Shape} {f g : TrackFlags} {s : TrackSet} {p : Plan} → PlanAt sh f g s p → Single sh s p → flag-count sh f s ≤ 1
+plan-single {sh} {f} {g} {s} {p} plan one = by-cases (decLt 1 (flag-count sh f s))
+    (λ c. count-one sh f s (p .last) (λ t l d. plan .rest c t l (λ n. none t l d n)))
+    (λ c. omega arith)
+  where
+    none : (t : ℕ) → t < tracks sh s → t ≢ p .last → Named p t → ⊥
+    none t l d (is-low e) = omega (arith, one .no-low)
+    none t l d (is-high e) = omega (arith, one .no-high)
+    none t l d (is-last e) = d e
+
 -- ## Words
 
 -- The word 0 flags no track.

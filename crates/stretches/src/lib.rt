@@ -121,7 +121,7 @@ fn ones_part(
     }
 }
 
-// ---- Two and three
+// ---- Two and three flagged cells
 
 // Track t of a set if it is marked, else NONE.
 fn if_marked(marks: &[u8], z: Sizes, s: usize, t: usize) -> usize
@@ -204,7 +204,7 @@ fn tail_run(out: &mut [u8], syn: &mut [u8], z: Sizes, a: Plan, b: Plan, from: us
     }
 }
 
-// Solves a run of positions with these flagged cells and, in their windows, these tracks.
+// Solves a run of positions with these flagged cells and, in their windows, these tracks. Where both sets have one at the most they are right already.
 fn solve_word(
     out: &mut [u8],
     syn: &mut [u8],
@@ -226,6 +226,11 @@ fn solve_word(
     let near = flags::marks_of(wide);
     let a = plan_at(&marks, &near, z, 0);
     let b = plan_at(&marks, &near, z, 1);
+    if solver::is_single(z, 0, a) {
+        if solver::is_single(z, 1, b) {
+            return;
+        }
+    }
     if from < z.positions {
         data_run(out, syn, z, a, b, from, to);
         return;
