@@ -267,7 +267,7 @@ ahead-join {z} {s} {t} {from} {mid} {to} {o₀} {o₁} {o₂} h v w = record {
     second y rest u q l a b d = v .only (set-of s) u q l (omega arith) (λ _ e _ _. d e) ∙ rest u q l (omega (arith, v .order)) b d
 
 -- All tracks of the set, from one position up to another.
-pub ahead-all : {z : Sizes} {s t from to : ℕ} {out after syn : List ℕ} → to ≤ track-length (shape z) → Ahead z s t from to out after syn →
+ahead-all : {z : Sizes} {s t from to : ℕ} {out after syn : List ℕ} → to ≤ track-length (shape z) → Ahead z s t from to out after syn →
     (y : Cells) → Good (shape z) y → Others z s t from to y out → (u q : ℕ) → u < tracks (shape z) (set-of s) → from ≤ q → q < to → cells (shape z) after (set-of s) u q ≡ y (set-of s) u q
 ahead-all {z} {s} {t} h v y g rest u q l a b = by-cases (ℕ-discrete u t)
     (λ e. rw e (v .right y g rest (rw e at l) q a b))

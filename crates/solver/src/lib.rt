@@ -123,8 +123,8 @@ fn clear_cell(out: &mut [u8], syn: &mut [u8], z: Sizes, s: usize, t: usize, p: u
     ensures { λ _. ⌜ Settled z (tracks (shape z) (set-of s)) s t p (cells (shape z) (now (out .entry)) (set-of s) t p) (now (out .entry)) (now (out .exit)) (now (syn .exit)) ⌝ }
 {
     let l = z.positions + (z.t1 + z.t2 + 1);
-    let i = syndrome::track_number(z, s, t) * l + p;
-    if out[i] != 0 {
+    let start = syndrome::track_number(z, s, t) * l;
+    if syndrome::cell_on_track(out, l, start, p) != 0 {
         syndrome::flip(out, syn, z, s, t, p);
     }
 }

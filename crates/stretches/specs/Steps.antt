@@ -99,10 +99,11 @@ pub record Advanced (z : Sizes) (flag : CellFlags) (n m n′ m′ : ℕ) (out af
   pub only : AgreeOff (shape z) flag (cells (shape z) out) (cells (shape z) after)
   pub ready : (y : Cells) → Ready (shape z) flag y (cells (shape z) out) n m → Ready (shape z) flag y (cells (shape z) after) n′ m′
 
--- The sets with one flagged cell at the most are right from one position up to another, and all cells are.
+-- The sets with one flagged cell at the most at a position are made right from one position up to another.
 abbrev pub OnesTo : Sizes → CellFlags → ℕ → ℕ → List ℕ → List ℕ → List ℕ → Type 0
 OnesTo z flag from to out after syn = Advanced z flag from 0 to 0 out after syn
 
+-- And, once that is done at every position, all cells are.
 abbrev pub AllTo : Sizes → CellFlags → ℕ → ℕ → List ℕ → List ℕ → List ℕ → Type 0
 AllTo z flag from to out after syn = Advanced z flag (track-length (shape z)) from (track-length (shape z)) to out after syn
 

@@ -1,20 +1,25 @@
 -- A bit is added to a cell and to the sums that it stands in.
-use mathlib.Core.Path.{_≡_, refl, ap}
+use mathlib.Core.Path.{_≡_, refl, sym, ap, _∙_}
 use mathlib.Core.List.{List}
 use Prim.Native.Nat.{ℕ, zero, suc, _+_, _*_, _-_, _<_, _≤_}
+use native.Mathlib.Decide.{ℕ-discrete}
 use native.Mathlib.Omega.{arith}
+use borrow.Rule.Slice.PartMut.{putMid, mid-len, same-len-mid}
 use native.Mathlib.Nat.{mod-lt}
 use lib.Arith.{digits-lt}
 use lib.Bits.{bitXor, xor-zero-r, xor-add-and, xor-lt}
-use lib.ListN.{length, getD, set, length-set}
-use lib.Seq.{set-getD}
+use lib.ListN.{length, getD, set, take, drop, length-set}
+use lib.Seq.{set-getD, getD-set-same, getD-set-other}
 use Rattle.code.specs.Record.{data-tracks, lag, track-length}
 use Rattle.code.specs.Sizes.{shape}
 use Rattle.code.specs.declared.Sizes.{Sizes}
 use Rattle.code.proofs.Cell.{lag-sets}
 use Rattle.code.proofs.Mono.{mono}
-use Rattle.code.proofs.Places.{cell-lt}
+use Rattle.code.specs.Image.{track-number, all-tracks}
+use Rattle.code.proofs.Places.{number-lt, cell-lt}
+use Rattle.track.proofs.Rows.{row-end}
 use Rattle.track.specs.Track.{Bits}
+use Rattle.track.proofs.Parts.{part-at, put-list}
 use Rattle.syndrome.specs.declared.Line.{Line}
 use Rattle.syndrome.specs.Syndrome.{set-of, Kept, IsCell, LineOf, CellAdded}
 use Rattle.syndrome.specs.Steps.{IsTrack, Rows, RowAdded, BitAdded, TrackAdded}
@@ -34,6 +39,37 @@ bit-added xs i (suc zero) bits h k =
       one = λ _. ap (λ v. set xs i v) e;
     }
 bit-added xs i (suc (suc w)) bits h k = absurd (omega arith)
+
+-- What `add_on_track` gives: a bit is added to a cell of a part, so it is added to that cell of the list.
+pub bit-on-track : (xs ys : List ℕ) (a l p w : ℕ) → Bits xs → a + l ≤ length xs → p < l → w < 2 → BitAdded (take (a + l - a) (drop a xs)) p w ys →
+    BitAdded xs (a + p) w (putMid a (a + l - a) xs ys)
+bit-on-track xs ys a l p w bits room h k b = go w k b
+  where
+    size : length ys ≡ a + l - a
+    size = b .size ∙ mid-len a (a + l) xs room
+
+    same-len : length (putMid a (a + l - a) xs ys) ≡ length xs
+    same-len = same-len-mid a (a + l - a) xs ys (b .size)
+
+    go : (w : ℕ) → w < 2 → BitAdded (take (a + l - a) (drop a xs)) p w ys → BitAdded xs (a + p) w (putMid a (a + l - a) xs ys)
+    go zero k b =
+        let e : putMid a (a + l - a) xs ys ≡ xs = put-list xs ys xs a l room size refl (λ i c. refl)
+        (λ m c. ap (λ (zs : List ℕ). getD zs m 0) (b .zero refl) ∙ part-at xs a (a + l - a) m (omega arith)) (λ i c. refl) in
+        record { size = same-len; bits = rw e bits; zero = λ _. e; one = λ d. absurd (omega arith) }
+    go (suc zero) k b =
+        let v : ℕ = 1 - getD xs (a + p) 0 in
+        let e : putMid a (a + l - a) xs ys ≡ set xs (a + p) v = put-list xs ys (set xs (a + p) v) a l room size (length-set xs (a + p) v)
+        (λ i c. sym (getD-set-other xs (a + p) i v 0 (omega arith))) (λ m c. ap (λ (zs : List ℕ). getD zs m 0) (b .one refl) ∙ here m c (ℕ-discrete m p))
+        (λ i c. sym (getD-set-other xs (a + p) i v 0 (omega arith))) in
+        record { size = same-len; bits = rw e (record { bit = λ j. rw (turned-at xs (a + p) (omega arith) (bits .bit) j) (mod-lt _ (omega arith)) }); zero = λ d. absurd (omega arith); one = λ _. e }
+      where
+        here : (m : ℕ) → m < l → Dec (m ≡ p) →
+            getD (set (take (a + l - a) (drop a xs)) p (1 - getD (take (a + l - a) (drop a xs)) p 0)) m 0 ≡ getD (set xs (a + p) (1 - getD xs (a + p) 0)) (a + m) 0
+        here m c (yes d) = rw d (getD-set-same (take (a + l - a) (drop a xs)) p _ 0 (omega (arith, mid-len a (a + l) xs room))
+            ∙ ap (λ (u : ℕ). 1 - u) (part-at xs a (a + l - a) p (omega arith)) ∙ sym (getD-set-same xs (a + p) (1 - getD xs (a + p) 0) 0 (omega arith)))
+        here m c (no d) = getD-set-other (take (a + l - a) (drop a xs)) p m _ 0 d ∙ part-at xs a (a + l - a) m (omega arith)
+            ∙ sym (getD-set-other xs (a + p) (a + m) (1 - getD xs (a + p) 0) 0 (λ q. d (omega arith)))
+    go (suc (suc w)) k b = absurd (omega arith)
 
 -- A bit 1 added to one row.
 one-row : (l row p off i : ℕ) (syn after : List ℕ) → Rows l syn → row < 4 → p + off < l → i ≡ row * l + (p + off) → BitAdded syn i 1 after → RowAdded l row (mono p) off syn after
@@ -55,6 +91,10 @@ module _ {z : Sizes} {s t : ℕ} {line : Line} {out syn : List ℕ} (p : ℕ) (k
   -- The cell is one of the record.
   is-cell : IsCell z s t p
   is-cell = record { set-small = track .set-small; track-small = track .track-small; position-small = omega arith }
+
+  -- The track's stretch is within the image, and the position within the stretch.
+  pub track-in : line .cell + track-length (shape z) ≤ length out
+  track-in = omega (arith, at .cell (track .track-small), row-end (track-length (shape z)) (track-number (shape z) (set-of s) t) (all-tracks (shape z)) (number-lt (shape z) (set-of s) t (track .track-small)), kept .image .size)
 
   -- The places of the cell and of its sums.
   pub cell-in : line .cell + p < length out

@@ -1,8 +1,8 @@
 // The syndromes of an image, and the functions that change a cell and keep them.
 use code::Sizes;
 ghost use mathlib.Core.Path.{_≡_};
-ghost use Prim.Native.Nat.{_+_, _*_, _<_};
-ghost use lib.ListN.{length};
+ghost use Prim.Native.Nat.{_+_, _*_, _<_, _≤_};
+ghost use lib.ListN.{length, getD};
 ghost use Rattle.code.specs.Record.{track-length};
 ghost use Rattle.track.specs.Track.{Bits};
 ghost use Rattle.code.specs.Image.{cells};
@@ -135,6 +135,39 @@ fn turn_sums(syn: &mut [u8], z: Sizes, s: usize, t: usize, p: usize)
     }
 }
 
+// Adds a bit to a cell of a list.
+fn add_bit(xs: &mut [u8], i: usize, w: u8)
+    requires { ⌜ Bits (now xs) ⌝ }
+    requires { ⌜ i < length (now xs) ⌝ }
+    requires { ⌜ w < 2 ⌝ }
+    ensures { λ _. ⌜ BitAdded (now (xs .entry)) i w (now (xs .exit)) ⌝ }
+{
+    xs[i] = xs[i] ^ w;
+}
+
+// Adds a bit to the cell at p of the track whose stretch, of l cells, begins at `start`.
+fn add_on_track(out: &mut [u8], l: usize, start: usize, p: usize, w: u8)
+    requires { ⌜ Bits (now out) ⌝ }
+    requires { ⌜ start + l ≤ length (now out) ⌝ }
+    requires { ⌜ p < l ⌝ }
+    requires { ⌜ w < 2 ⌝ }
+    ensures { λ _. ⌜ BitAdded (now (out .entry)) (start + p) w (now (out .exit)) ⌝ }
+{
+    let end = start + l;
+    add_bit(&mut out[start..end], p, w);
+}
+
+// The cell at p of the track whose stretch, of l cells, begins at `start`.
+pub fn cell_on_track(out: &[u8], l: usize, start: usize, p: usize) -> u8
+    requires { ⌜ start + l ≤ length (now out) ⌝ }
+    requires { ⌜ p < l ⌝ }
+    ensures { λ r. ⌜ r ≡ getD (now (out .entry)) (start + p) 0 ⌝ }
+{
+    let end = start + l;
+    let track = &out[start..end];
+    track[p]
+}
+
 // Turns one cell over, and the syndromes that it stands in.
 pub fn flip(out: &mut [u8], syn: &mut [u8], z: Sizes, s: usize, t: usize, p: usize)
     requires { ⌜ Kept z (now out) (now syn) ⌝ }
@@ -142,8 +175,8 @@ pub fn flip(out: &mut [u8], syn: &mut [u8], z: Sizes, s: usize, t: usize, p: usi
     ensures { λ _. ⌜ Flipped z s t p (now (out .entry)) (now (out .exit)) (now (syn .exit)) ⌝ }
 {
     let l = z.positions + (z.t1 + z.t2 + 1);
-    let i = track_number(z, s, t) * l + p;
-    out[i] = 1 - out[i];
+    let start = track_number(z, s, t) * l;
+    add_on_track(out, l, start, p, 1);
     turn_sums(syn, z, s, t, p);
 }
 
@@ -179,16 +212,6 @@ pub fn find_line(z: Sizes, s: usize, t: usize) -> Line
     }
 }
 
-// Adds a bit to a cell of a list.
-fn add_bit(xs: &mut [u8], i: usize, w: u8)
-    requires { ⌜ Bits (now xs) ⌝ }
-    requires { ⌜ i < length (now xs) ⌝ }
-    requires { ⌜ w < 2 ⌝ }
-    ensures { λ _. ⌜ BitAdded (now (xs .entry)) i w (now (xs .exit)) ⌝ }
-{
-    xs[i] = xs[i] ^ w;
-}
-
 // Adds a bit to a cell at a position of the data, and to the syndromes that it stands in. Does the same whether the bit is 0 or 1.
 pub fn add_cell(
     out: &mut [u8],
@@ -207,7 +230,8 @@ pub fn add_cell(
     requires { ⌜ w < 2 ⌝ }
     ensures { λ _. ⌜ CellAdded z s t p w (now (out .entry)) (now (out .exit)) (now (syn .exit)) ⌝ }
 {
-    add_bit(out, line.cell + p, w);
+    let l = z.positions + (z.t1 + z.t2 + 1);
+    add_on_track(out, l, line.cell, p, w);
     add_bit(syn, line.vertical + p, w);
     if t <= data_tracks(z, s) {
         add_bit(syn, line.own + p, w);

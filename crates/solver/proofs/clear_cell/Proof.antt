@@ -1,35 +1,25 @@
 -- The cell is turned over if it is 1, and stays if it is 0.
-use mathlib.Core.Path.{_≡_, ap}
-use Prim.Native.Nat.{ℕ, _+_, _*_, _<_}
+use mathlib.Core.Path.{_≡_, ap, _∙_}
+use Prim.Native.Nat.{ℕ, _+_, _*_}
 use native.Mathlib.Omega.{arith}
 use denote.Ref.{now}
-use lib.ListN.{length, getD}
+use lib.ListN.{getD}
 use Rattle.code.specs.Record.{track-length}
 use Rattle.code.specs.Image.{cells}
 use Rattle.code.specs.Sizes.{shape}
-use Rattle.code.proofs.Places.{cell-lt}
 use Rattle.syndrome.specs.Syndrome.{set-of, index}
 use Rattle.solver.proofs.Settling.{settled-turned, settled-same}
 use borrow.Author.Needs.{needs}
 use Rattle.solver.proofs.clear_cell.Statement.{statement}
 use Rattle.solver.proofs.clear_cell.Tie as tie
 
--- The cell is one of the copy.
-inside : (c : tie.After-track-number) →
-    let a = c .before .before .before .before .before .args in
-    c .track-number .result * track-length (shape (a .z)) + a .p < length (now (a .out))
-inside c =
-    let s = c .before .before .before .before .before in
-    let a = s .args in
-    rw (c .track-number .ensures .is)
-    (omega (arith, cell-lt (shape (a .z)) (set-of (a .s)) (a .t) (a .p) (s .pre .1 .track-small) (s .pre .1 .position-small), s .pre .0 .image .size))
-
-read : (c : tie.After-track-number) →
-    let a = c .before .before .before .before .before .args in
-    getD (now (a .out)) (c .track-number .result * track-length (shape (a .z)) + a .p) 0 ≡ cells (shape (a .z)) (now (a .out)) (set-of (a .s)) (a .t) (a .p)
+-- What was read is the cell.
+read : (c : tie.After-cell-on-track) →
+    let a = c .before .before .before .before .before .before .before .args in
+    c .cell-on-track .result ≡ cells (shape (a .z)) (now (a .out)) (set-of (a .s)) (a .t) (a .p)
 read c =
-    let a = c .before .before .before .before .before .args in
-    ap (λ (k : ℕ). getD (now (a .out)) (k * track-length (shape (a .z)) + a .p) 0) (c .track-number .ensures .is)
+    let a = c .before .before .before .before .before .before .before .args in
+    c .cell-on-track .ensures ∙ ap (λ (k : ℕ). getD (now (a .out)) (k * track-length (shape (a .z)) + a .p) 0) (c .before .before .track-number .ensures .is)
 
 add-l : tie.Need-add-l
 add-l c = search needs
@@ -43,14 +33,11 @@ add-l-3 c = search needs
 track-number-requires : tie.Need-track-number-requires
 track-number-requires c κs = search needs
 
-mul-i : tie.Need-mul-i
-mul-i c = omega (arith, inside c)
+mul-start : tie.Need-mul-start
+mul-start c = search needs
 
-add-i : tie.Need-add-i
-add-i c = omega (arith, inside c)
-
-slice-read-if1 : tie.Need-slice-read-if1
-slice-read-if1 c = inside (c .before)
+cell-on-track-requires : tie.Need-cell-on-track-requires
+cell-on-track-requires c κs = search needs
 
 flip-requires : tie.Need-flip-requires
 flip-requires c κs = search needs
@@ -63,17 +50,15 @@ same-length-2 c = search needs
 
 returns : tie.Need-returns
 returns c =
-    let r = c .before .before .before .before in
-    let n = r .before .before .before .before .before in
-    let s = n .before .before .before .before .before in
+    let s = c .before .before .before .before .before .before .before .before .before .before .before .before .before .before .before in
     let bit = s .pre .0 .image .bits (index (s .args .z) (s .args .s) (s .args .t) (s .args .p)) in
-    settled-turned _ _ (s .pre .0) (s .pre .1) (omega (arith, read n, bit, r .before .before .before .if1 .taken)) (r .flip .ensures)
+    settled-turned _ _ (s .pre .0) (s .pre .1) (omega (arith, read (c .before .before .before .before .before .before .before .before), bit, c .before .before .before .before .before .before .before .if1 .taken)) (c .before .before .before .before .flip .ensures)
+
+same-length-3 : tie.Need-same-length-3
+same-length-3 c = search needs
 
 returns-2 : tie.Need-returns-2
-returns-2 c =
-    let n = c .before .before in
-    let s = n .before .before .before .before .before in
-    settled-same _ _ (s .pre .0) (omega (arith, read n, c .if1 .left))
+returns-2 c = let s = c .before .before .before .before .before .before .before .before in settled-same _ _ (s .pre .0) (omega (arith, read (c .before), c .if1 .left))
 
 pub clear-cell-spec : {M : Type 1} → statement M
 clear-cell-spec =
@@ -83,11 +68,11 @@ clear-cell-spec =
     add-l-2
     add-l-3
     track-number-requires
-    mul-i
-    add-i
-    slice-read-if1
+    mul-start
+    cell-on-track-requires
     flip-requires
     same-length
     same-length-2
     returns
+    same-length-3
     returns-2)
