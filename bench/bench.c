@@ -103,26 +103,24 @@ static void *allocate(size_t size)
 
 /* ---- calls of one type */
 
+/* A call of the library, and that of plain C, by an input. */
 #define CALL(name, ...) \
-    static axp_result name(uint32_t n, const struct input *x, size_t len, uint8_t *out, size_t out_len) \
+    static axp_result library_##name(uint32_t n, const struct input *x, size_t len, uint8_t *out, size_t out_len) \
     { \
-        return __VA_ARGS__; \
+        return axp_##name(__VA_ARGS__); \
+    } \
+    static axp_result c_##name(uint32_t n, const struct input *x, size_t len, uint8_t *out, size_t out_len) \
+    { \
+        return plain_##name(__VA_ARGS__); \
     }
 
-CALL(library_encode, axp_encode(n, x->bytes, len, out, out_len))
-CALL(library_read, axp_read(n, x->bytes, len, out, out_len))
-CALL(library_repair, axp_repair(n, x->flags, x->bytes, len, out, out_len))
-CALL(library_trace, axp_trace(n, x->flags, x->bytes, len, out, out_len))
-CALL(library_spans, axp_repair_spans(n, x->spans, x->span_count, x->bytes, len, out, out_len))
-CALL(library_pack, axp_pack(n, x->bytes, len, out, out_len))
-CALL(library_unpack, axp_unpack(n, x->bytes, len, out, out_len))
-CALL(c_encode, plain_encode(n, x->bytes, len, out, out_len))
-CALL(c_read, plain_read(n, x->bytes, len, out, out_len))
-CALL(c_repair, plain_repair(n, x->flags, x->bytes, len, out, out_len))
-CALL(c_trace, plain_trace(n, x->flags, x->bytes, len, out, out_len))
-CALL(c_spans, plain_repair_spans(n, x->spans, x->span_count, x->bytes, len, out, out_len))
-CALL(c_pack, plain_pack(n, x->bytes, len, out, out_len))
-CALL(c_unpack, plain_unpack(n, x->bytes, len, out, out_len))
+CALL(encode, n, x->bytes, len, out, out_len)
+CALL(read, n, x->bytes, len, out, out_len)
+CALL(repair, n, x->flags, x->bytes, len, out, out_len)
+CALL(trace, n, x->flags, x->bytes, len, out, out_len)
+CALL(repair_spans, n, x->spans, x->span_count, x->bytes, len, out, out_len)
+CALL(pack, n, x->bytes, len, out, out_len)
+CALL(unpack, n, x->bytes, len, out, out_len)
 
 /* The answer 0 with no changed cell. */
 static const axp_result unchanged = {AXP_OK, 0, 0, 0, AXP_NO_EXTRA, AXP_NO_EXTRA};
@@ -511,7 +509,7 @@ static void short_stretches(struct input *x, uint8_t *image, unsigned k)
 static void add_spans(const char *name, void (*stretches)(struct input *x, uint8_t *image, unsigned k))
 {
     size_t size = AXP_IMAGE_SIZE(blocks);
-    struct row *row = add_row(name, size, size, library_spans, c_spans);
+    struct row *row = add_row(name, size, size, library_repair_spans, c_repair_spans);
     unsigned order[INPUTS];
     shuffle(order);
     for (int i = 0; i < input_count; i++) {

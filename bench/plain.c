@@ -917,7 +917,17 @@ static plan plan_at(const uint8_t *marks, const uint8_t *near, size_t s)
     return (plan){if_marked(marks, s, q.low), if_marked(marks, s, q.high), if_marked(marks, s, q.last)};
 }
 
-static void data_run(uint8_t *restrict out, uint8_t *restrict syn, size_t l, plan a, plan b, size_t from, size_t to)
+static void set_run(uint8_t *restrict out, uint8_t *restrict syn, size_t l, size_t s, plan q, size_t from, size_t to)
+{
+    line low = find_line(out, syn, l, s, q.low), high = find_line(out, syn, l, s, q.high), last = find_line(out, syn, l, s, q.last);
+    for (size_t m = from; m < to; m++) {
+        low_at(low, q.low, m);
+        high_at(high, q.high, m);
+        last_at(last, q.last, m);
+    }
+}
+
+static void both_run(uint8_t *restrict out, uint8_t *restrict syn, size_t l, plan a, plan b, size_t from, size_t to)
 {
     line a_low = find_line(out, syn, l, 0, a.low), a_high = find_line(out, syn, l, 0, a.high), a_last = find_line(out, syn, l, 0, a.last);
     line b_low = find_line(out, syn, l, 1, b.low), b_high = find_line(out, syn, l, 1, b.high), b_last = find_line(out, syn, l, 1, b.last);
@@ -929,6 +939,17 @@ static void data_run(uint8_t *restrict out, uint8_t *restrict syn, size_t l, pla
         high_at(b_high, b.high, m);
         last_at(b_last, b.last, m);
     }
+}
+
+/* A plan of one track leaves nothing to do. */
+static void data_run(uint8_t *restrict out, uint8_t *restrict syn, size_t l, plan a, plan b, size_t from, size_t to)
+{
+    if (is_single(a))
+        set_run(out, syn, l, 1, b, from, to);
+    else if (is_single(b))
+        set_run(out, syn, l, 0, a, from, to);
+    else
+        both_run(out, syn, l, a, b, from, to);
 }
 
 /* The positions of the data or of the tail, run by run. */

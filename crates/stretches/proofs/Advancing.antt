@@ -16,15 +16,15 @@ use Rattle.code.proofs.Linear.{good-same}
 use Rattle.code.proofs.Patterns.{in-each}
 use Rattle.syndrome.specs.Syndrome.{set-of, Kept, Tested}
 use Rattle.solver.specs.declared.Plan.{Plan}
-use Rattle.solver.specs.Solver.{marked, plan-of}
+use Rattle.solver.specs.Solver.{marked, Single, plan-of}
 use Rattle.solver.specs.Steps.{Still, Known, Stepped, Others, Ahead}
 use Rattle.solver.proofs.Stepping.{still-both, still-known}
 use Rattle.flags.specs.Marks.{Marks}
 use Rattle.flags.specs.Words.{word-cells}
 use Rattle.code.proofs.Same.{count-same}
 use Rattle.stretches.specs.Stretches.{Solved}
-use Rattle.stretches.specs.Steps.{flags-at, OneTrack, PlanAt, Suits, Ready, Advanced, OnesTo, AllTo, OnesWord, AllRun, AllWord}
-use Rattle.stretches.proofs.Planning.{zero-flags, suits-at, marks-at, one-same}
+use Rattle.stretches.specs.Steps.{flags-at, OneTrack, PlanAt, Suits, Ready, Advanced, OnesTo, AllTo, OnesWord, SetRun, AllRun, AllWord}
+use Rattle.stretches.proofs.Planning.{plan-single, zero-flags, suits-at, marks-at, one-same}
 
 -- What is right stays right.
 still-ready : {sh : Shape} {flag : CellFlags} {y x x′ : Cells} {n m : ℕ} → n ≤ track-length sh → m ≤ track-length sh → Still sh y x x′ →
@@ -178,14 +178,64 @@ all-more {z} {flag} {a} {b} {from} {m} {o₀} {o₁} {o₂} {o₃} h suits done 
         }
 
 pub all-run-none : {z : Sizes} {a b : Plan} {from : ℕ} {out syn : List ℕ} → Kept z out syn → AllRun z a b from from out out syn
-all-run-none k = record { kept = k; advanced = λ flag h. advanced-none k }
+all-run-none k = record { kept = k; advanced = λ flag h c. advanced-none k }
 
 pub all-run-more : {z : Sizes} {a b : Plan} {from m : ℕ} {o₀ o₁ o₂ o₃ k₁ k₂ k₃ : List ℕ} → from ≤ m → m < track-length (shape z) → AllRun z a b from m o₀ o₁ k₁ →
     Stepped z 0 a m o₁ o₂ k₂ → Stepped z 1 b m o₂ o₃ k₃ → AllRun z a b from (m + 1) o₀ o₃ k₃
 all-run-more {m = m} i h r v w = record {
   kept = w .kept;
-  advanced = λ flag suits. all-more h (λ s. suits s m i (omega arith)) (r .advanced flag (λ s q a b. suits s q a (omega arith))) v w;
+  advanced = λ flag suits ones. all-more h (λ s. suits s m i (omega arith))
+      (r .advanced flag (λ s q a b. suits s q a (omega arith)) (λ s e q a b. ones s e q a (omega arith))) v w;
 }
+
+-- ## One set
+
+-- What holds of a set and of the other one holds of both.
+by-set : (P : TrackSet → Type 0) (c : TrackSet) → P c → P (other c) → (d : TrackSet) → P d
+by-set P A p q = in-each P p q
+by-set P B p q = in-each P q p
+
+-- It at one position more, where the other has one flagged cell at the most.
+set-more : {z : Sizes} {flag : CellFlags} {s : ℕ} {p : Plan} {from m : ℕ} {o₀ o₁ o₂ k₁ k₂ : List ℕ} → m < track-length (shape z) →
+    Suits (shape z) flag (set-of s) m p → flag-count (shape z) (flags-at flag m) (other (set-of s)) ≤ 1 → AllTo z flag from m o₀ o₁ k₁ → Stepped z s p m o₁ o₂ k₂ →
+    AllTo z flag from (m + 1) o₀ o₂ k₂
+set-more {z} {flag} {s} {p} {from} {m} {o₀} {o₁} {o₂} h suits one done v = record {
+  kept = v .kept;
+  only = record { cell = λ c t q l i e. done .only .cell c t q l i e ∙ step-only suits v .cell c t q l i e };
+  ready = λ y r. next y (done .ready y r);
+}
+  where
+    next : (y : Cells) → Ready (shape z) flag y (cells (shape z) o₁) (track-length (shape z)) m →
+        Ready (shape z) flag y (cells (shape z) o₂) (track-length (shape z)) (m + 1)
+    next y r =
+        let v′ = v .made (suits .window) y (suits .fits) (r .good) (known h suits r) in
+        let r₂ = still-ready (omega arith) (omega arith) (v′ .still) r in
+        let now : (c : TrackSet) (t : ℕ) → t < tracks (shape z) c → cells (shape z) o₂ c t m ≡ y c t m =
+        by-set (λ c. (t : ℕ) → t < tracks (shape z) c → cells (shape z) o₂ c t m ≡ y c t m) (set-of s) (v′ .cell) (λ t l. r₂ .ones (other (set-of s)) t m l h one) in
+        record {
+          good = r₂ .good;
+          clear = r₂ .clear;
+          ones = r₂ .ones;
+          before = λ c t q l i. by-cases (decLt q m) (λ k. r₂ .before c t q l k) (λ k. let e : q ≡ m = omega arith in rw e (now c t l));
+        }
+
+pub set-run-none : {z : Sizes} {s : ℕ} {p : Plan} {from : ℕ} {out syn : List ℕ} → Kept z out syn → SetRun z s p from from out out syn
+set-run-none k = record { kept = k; advanced = λ flag h c. advanced-none k }
+
+pub set-run-more : {z : Sizes} {s : ℕ} {p : Plan} {from m : ℕ} {o₀ o₁ o₂ k₁ k₂ : List ℕ} → from ≤ m → m < track-length (shape z) → SetRun z s p from m o₀ o₁ k₁ →
+    Stepped z s p m o₁ o₂ k₂ → SetRun z s p from (m + 1) o₀ o₂ k₂
+set-run-more {m = m} i h r v = record {
+  kept = v .kept;
+  advanced = λ flag suits one. set-more h (suits m i (omega arith)) (one m i (omega arith))
+      (r .advanced flag (λ q a b. suits q a (omega arith)) (λ q a b. one q a (omega arith))) v;
+}
+
+-- Beside a plan of one track it is all.
+pub all-of-a : {z : Sizes} {a b : Plan} {from to : ℕ} {out after syn : List ℕ} → Single (shape z) B b → SetRun z 0 a from to out after syn → AllRun z a b from to out after syn
+all-of-a e r = record { kept = r .kept; advanced = λ flag suits ones. r .advanced flag (suits A) (ones B e) }
+
+pub all-of-b : {z : Sizes} {a b : Plan} {from to : ℕ} {out after syn : List ℕ} → Single (shape z) A a → SetRun z 1 b from to out after syn → AllRun z a b from to out after syn
+all-of-b e r = record { kept = r .kept; advanced = λ flag suits ones. r .advanced flag (suits B) (ones A e) }
 
 -- ## Runs of words
 
@@ -246,8 +296,16 @@ all-word-run {z} {word} {wide} {a} {b} {marks = marks} {nears = nears} small h m
   advanced = λ words near w alike. r .advanced (word-cells (shape z) words) (λ s q i l.
       suits-at z words near small w q (omega arith) (marked (shape z) marks) (marked (shape z) nears)
       (marks-at z word marks small m words q (alike .word-at q i l)) (marks-at z wide nears small n near q (alike .near-at q i l)) s (plan-of a b s)
-      (in-each (λ s. PlanAt (shape z) (marked (shape z) marks) (marked (shape z) nears) s (plan-of a b s)) u v s));
+      (planned s)) (λ s e q i l.
+      omega (
+        arith,
+        plan-single (planned s) e,
+        count-same (shape z) (marked (shape z) marks) (flags-at (word-cells (shape z) words) q) (marks-at z word marks small m words q (alike .word-at q i l)) s,
+      ));
 }
+  where
+    planned : (s : TrackSet) → PlanAt (shape z) (marked (shape z) marks) (marked (shape z) nears) s (plan-of a b s)
+    planned = in-each (λ s. PlanAt (shape z) (marked (shape z) marks) (marked (shape z) nears) s (plan-of a b s)) u v
 
 -- ## The whole way
 

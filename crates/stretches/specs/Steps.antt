@@ -11,9 +11,9 @@ use Rattle.code.specs.Flags.{TrackFlags, CellFlags, word-flags, flag-count, Agr
 use Rattle.code.specs.Reach.{flags-code}
 use Rattle.code.specs.Sizes.{shape}
 use Rattle.code.specs.declared.Sizes.{Sizes}
-use Rattle.syndrome.specs.Syndrome.{Kept}
+use Rattle.syndrome.specs.Syndrome.{set-of, Kept}
 use Rattle.solver.specs.declared.Plan.{Plan}
-use Rattle.solver.specs.Solver.{Named, plan-of}
+use Rattle.solver.specs.Solver.{Named, Single, plan-of}
 use Rattle.solver.specs.Steps.{Fits}
 use Rattle.flags.specs.Words.{word-cells, Windows}
 
@@ -114,10 +114,18 @@ pub record OnesWord (z : Sizes) (word from to : ℕ) (out after syn : List ℕ) 
   pub kept : Kept z after syn
   pub advanced : (words : List ℕ) → ((q : ℕ) → from ≤ q → q < to → getD words q 0 ≡ word) → OnesTo z (word-cells (shape z) words) from to out after syn
 
--- All flagged cells, in a run of positions that the plans suit.
+-- The flagged cells of a set, in a run of positions that its plan suits, where the other set has one a position at the most.
+pub record SetRun (z : Sizes) (s : ℕ) (p : Plan) (from to : ℕ) (out after syn : List ℕ) : Type 0 where
+  pub kept : Kept z after syn
+  pub advanced : (flag : CellFlags) → ((q : ℕ) → from ≤ q → q < to → Suits (shape z) flag (set-of s) q p) →
+      ((q : ℕ) → from ≤ q → q < to → flag-count (shape z) (flags-at flag q) (other (set-of s)) ≤ 1) → AllTo z flag from to out after syn
+
+-- All flagged cells, in a run of positions that the plans suit. A plan of one track is that of a set with one flagged cell at the most.
 pub record AllRun (z : Sizes) (a b : Plan) (from to : ℕ) (out after syn : List ℕ) : Type 0 where
   pub kept : Kept z after syn
-  pub advanced : (flag : CellFlags) → ((s : TrackSet) (q : ℕ) → from ≤ q → q < to → Suits (shape z) flag s q (plan-of a b s)) → AllTo z flag from to out after syn
+  pub advanced : (flag : CellFlags) → ((s : TrackSet) (q : ℕ) → from ≤ q → q < to → Suits (shape z) flag s q (plan-of a b s)) →
+      ((s : TrackSet) → Single (shape z) s (plan-of a b s) → (q : ℕ) → from ≤ q → q < to → flag-count (shape z) (flags-at flag q) s ≤ 1) →
+      AllTo z flag from to out after syn
 
 -- All flagged cells, in a run of positions with these words.
 pub record AllWord (z : Sizes) (word wide from to : ℕ) (out after syn : List ℕ) : Type 0 where

@@ -13,7 +13,7 @@ ghost use Rattle.solver.specs.Solver.{marked};
 ghost use Rattle.solver.specs.Steps.{Ahead};
 ghost use Rattle.flags.specs.Words.{word-cells, Windows};
 ghost use Rattle.stretches.specs.Stretches.{Solved};
-ghost use Rattle.stretches.specs.Steps.{RunEnd, Part, Few, InWindow, Below, OneTrack, IfFlagged, PlanAt, OnesTo, AllTo, OnesWord, AllRun, AllWord};
+ghost use Rattle.stretches.specs.Steps.{RunEnd, Part, Few, InWindow, Below, OneTrack, IfFlagged, PlanAt, OnesTo, AllTo, OnesWord, SetRun, AllRun, AllWord};
 
 // Where the run of positions that begins at `from` ends, `to` at the latest: their words and those of their windows are the same.
 fn run_end(words: &[u32], near: &[u32], from: usize, to: usize) -> usize
@@ -167,8 +167,26 @@ fn plan_at(marks: &[u8], near: &[u8], z: Sizes, s: usize) -> Plan
     Plan { low, high, last }
 }
 
-// Solves both sets at the positions of the data from one up to another.
-fn data_run(out: &mut [u8], syn: &mut [u8], z: Sizes, a: Plan, b: Plan, from: usize, to: usize)
+// Solves one set at the positions of the data from one up to another, where the other has one flagged cell at the most.
+fn set_run(out: &mut [u8], syn: &mut [u8], z: Sizes, s: usize, plan: Plan, from: usize, to: usize)
+    requires { ⌜ Kept z (now out) (now syn) ⌝ }
+    requires { ⌜ s < 2 ⌝ }
+    requires { ⌜ from ≤ to ⌝ }
+    requires { ⌜ to ≤ z .positions ⌝ }
+    ensures { λ _. ⌜ SetRun z s plan from to (now (out .entry)) (now (out .exit)) (now (syn .exit)) ⌝ }
+{
+    let low = syndrome::find_line(z, s, plan.low);
+    let high = syndrome::find_line(z, s, plan.high);
+    let last = syndrome::find_line(z, s, plan.last);
+    let mut m = from;
+    while m < to {
+        solver::step(out, syn, z, s, plan, low, high, last, m);
+        m += 1;
+    }
+}
+
+// Solves both sets.
+fn both_run(out: &mut [u8], syn: &mut [u8], z: Sizes, a: Plan, b: Plan, from: usize, to: usize)
     requires { ⌜ Kept z (now out) (now syn) ⌝ }
     requires { ⌜ from ≤ to ⌝ }
     requires { ⌜ to ≤ z .positions ⌝ }
@@ -186,6 +204,24 @@ fn data_run(out: &mut [u8], syn: &mut [u8], z: Sizes, a: Plan, b: Plan, from: us
         solver::step(out, syn, z, 1, b, b_low, b_high, b_last, m);
         m += 1;
     }
+}
+
+// Solves what is left of both sets at the positions of the data from one up to another: a plan of one track leaves nothing.
+fn data_run(out: &mut [u8], syn: &mut [u8], z: Sizes, a: Plan, b: Plan, from: usize, to: usize)
+    requires { ⌜ Kept z (now out) (now syn) ⌝ }
+    requires { ⌜ from ≤ to ⌝ }
+    requires { ⌜ to ≤ z .positions ⌝ }
+    ensures { λ _. ⌜ AllRun z a b from to (now (out .entry)) (now (out .exit)) (now (syn .exit)) ⌝ }
+{
+    if solver::is_single(z, 0, a) {
+        set_run(out, syn, z, 1, b, from, to);
+        return;
+    }
+    if solver::is_single(z, 1, b) {
+        set_run(out, syn, z, 0, a, from, to);
+        return;
+    }
+    both_run(out, syn, z, a, b, from, to);
 }
 
 // The same at positions of the tail.
