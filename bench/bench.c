@@ -137,6 +137,15 @@ enum { K = 14, M = 18, LOST = 4 };
 
 static unsigned char generator[K * M];
 
+/* Some of ISA-L's functions leave the upper halves of vector registers in use, which slows whatever is run after them. */
+static void leave_isal(void)
+{
+#if defined(__x86_64__)
+    if (__builtin_cpu_supports("avx"))
+        __asm__ volatile("vzeroupper");
+#endif
+}
+
 /* The parts follow one another. The flags name the lost ones, four data parts: the inverse of what is left, then the four. */
 static axp_result isal_decode(uint32_t n, const struct input *x, size_t len, uint8_t *out, size_t out_len)
 {
@@ -160,6 +169,7 @@ static axp_result isal_decode(uint32_t n, const struct input *x, size_t len, uin
         }
     ec_init_tables(K, LOST, rows, tables);
     ec_encode_data((int)n, K, LOST, tables, from, to);
+    leave_isal();
     return unchanged;
 }
 #endif
@@ -607,6 +617,7 @@ static void add_isal(const char *name)
         for (int k = K; k < M; k++)
             to[k - K] = parts + (size_t)k * blocks;
         ec_encode_data((int)blocks, K, M - K, tables, from, to);
+        leave_isal();
         row->inputs[i] = plain_input(flags, parts, parts, lost, unchanged);
         for (int k = 0; k < K; k++)
             if (flags >> k & 1) {
