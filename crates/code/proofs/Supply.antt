@@ -8,10 +8,11 @@ use native.Mathlib.Omega.{arith}
 use lib.ListN.{length}
 use Rattle.code.specs.Record.{base}
 use Rattle.code.specs.Image.{image-size}
+use Rattle.code.specs.Flags.{TrackFlags}
 use Rattle.code.specs.Payload.{payload-size}
 use Rattle.code.specs.Lost.{bit-values, read-values}
 use Rattle.code.specs.Reach.{flags-code, none}
-use Rattle.code.specs.Spans.{span-flags}
+use Rattle.code.specs.Spans.{Table, span-flags}
 use Rattle.code.specs.Packed.{packed-size}
 use Rattle.code.specs.Numbers.{count-check, room-check, flag-check, reach-check, padding-check, table-check, window-check, input-checks, size-checks, image-checks}
 use Rattle.code.specs.Calls.{
@@ -54,6 +55,7 @@ use Rattle.code.specs.Supply.{
   Point2,
   near-by,
   MendPoint3,
+  SpanPoint3,
   MendValues,
   block-count,
 }
@@ -63,7 +65,7 @@ use Rattle.code.proofs.Extras.{ExtrasNumbered, plain-answers-numbered, 
 use Rattle.code.proofs.Mending.{names-by, Mends, mending-fixed, mending-demanded, mending-values}
 use Rattle.code.proofs.Numbers.{passed-exact, passed-both, answer-of, each-append, later, first-given}
 use Rattle.code.proofs.RoundTrip.{round-trip}
-use Rattle.code.proofs.Stretches.{spans-fixed, span-values}
+use Rattle.code.proofs.Stretches.{spans-fixed, span-point-3, span-values}
 
 -- ## The contracts
 
@@ -197,6 +199,11 @@ pub point-3 : (way : Mending) (n flags : ℕ) (image before : List ℕ) (r : Res
 point-3 way n flags image before r after c u =
     mending-demanded way (base n) refl (call-flags n flags image) (early-checks read-values (base n) n flags image (length before)) image before r after
     (mends way n flags image before r after c) (omega arith) (4 ≤ n) (λ l. omega arith)
+
+-- By cells, of repair with flags by stretch.
+pub point-3-by-cells : (n : ℕ) (table : Table) (image before : List ℕ) (r : Result) (after : List ℕ) → Right (mend-spans n table image before) r after →
+    MetNone (1 ∷ 2 ∷ 3 ∷ 4 ∷ 9 ∷ []) r → (f : TrackFlags) → SpanPoint3 n table image f r after
+point-3-by-cells n table image before r after c u = span-point-3 n table image before r after c (omega arith)
 
 -- ## Values
 

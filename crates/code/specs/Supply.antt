@@ -1,8 +1,8 @@
 -- The three points of the supply, a record a point and a field a sentence, what document 01 says besides of the values that repair
--- and tracing return, and what document 02 says of packing, of lost cells, of records of no blocks and of flags by stretch. Whatever the contracts allow
--- has them: `point-1`, `point-2`, `point-3` and `values` of proofs/Supply, `packing-undone` and `unpacking-undone` of proofs/Undoing,
--- `as-before` of proofs/Lost, `no-blocks` of proofs/NoBlocks, `span-point-3`, `span-values` and `as-repair` of proofs/Stretches,
--- `repair-is-a-case` of proofs/WholeTracks.
+-- and tracing return, and what document 02 says of packing, of lost cells, of records of no blocks and of flags by stretch. Whatever
+-- the contracts allow has them: `point-1`, `point-2`, `point-3`, `point-3-by-cells` and `values` of proofs/Supply, `packing-undone`
+-- and `unpacking-undone` of proofs/Undoing, `as-before` of proofs/Lost, `no-blocks` of proofs/NoBlocks, `span-values` and `as-repair`
+-- of proofs/Stretches, `repair-is-a-case` of proofs/WholeTracks.
 use mathlib.Core.Path.{_≡_}
 use mathlib.Core.Logic.{_⊎_, _≢_, _↔_}
 use mathlib.Core.Bool.{true, false}
