@@ -3,8 +3,9 @@
  *
  * Seven calls on numbers and slices: an encoder, a reader of good records, a repairer for flagged
  * tracks, a tracer for unflagged ones, a repairer for flagged stretches of cells, and two calls that
- * turn an image to its packed form and back. Each call always returns, allocates nothing, keeps no state between calls and reads and writes
- * nothing but the slices that it is given, so it may be called from any number of threads at once.
+ * turn an image to its packed form and back. Each call always returns, allocates nothing, keeps no
+ * state between calls and reads and writes nothing but the slices that it is given, so it may be
+ * called from any number of threads at once.
  *
  * What a call answers and every byte that it leaves in the output are fixed by the project's
  * documents 01 and 02 and proved of the code behind axp_encode, axp_read, axp_repair, axp_trace,
@@ -104,10 +105,10 @@ enum axp_answer {
  *
  * answer   0 or a number of enum axp_answer.
  * detail   with AXP_CELL_VALUE the index of the first bad cell in the image, else 0.
- * mask     from the repairers and tracing with answer 0: bit g is set exactly if some cell of track number g
- *          differs between output and image. Else 0.
- * cells    from the repairers and tracing with answer 0: the number of cells that differ. Else 0. A lost cell
- *          is 2 in the image and 0 or 1 in the output: it differs, whichever it becomes.
+ * mask     from the repairers and tracing with answer 0: bit g is set exactly if some cell of track
+ *          number g differs between output and image. Else 0.
+ * cells    from the repairers and tracing with answer 0: the number of cells that differ. Else 0. A
+ *          lost cell is 2 in the image and 0 or 1 in the output: it differs, whichever it becomes.
  * extra_a, from tracing with answer 0: the track number (0 to 8 in A, 9 to 17 in B) of the changed
  * extra_b  track of the set that was not flagged and has no lost cell, or AXP_NO_EXTRA where there is
  *          none. Else AXP_NO_EXTRA.
