@@ -1,9 +1,12 @@
 // The library for C: numbers, byte slices and a table of spans in, a struct of numbers out. include/axp.h declares these calls.
 use code::Answer;
+use code::Counted;
 use code::Extra;
 use code::Span;
+use code::Stretch;
+use code::Written;
 ghost use mathlib.Core.Path.{_≡_};
-ghost use Rattle.code.specs.Contracts.{Encoded, WasRead, Repaired, Traced, SpansRepaired, WasPacked, WasUnpacked};
+ghost use Rattle.code.specs.Contracts.{Encoded, WasRead, Repaired, Traced, SpansRepaired, WasPacked, WasUnpacked, FileWritten, FileCounted, EntryFound};
 ghost use Rattle.code.specs.Spans.{table-of};
 ghost use Rattle.code.specs.Answers.{extra-of, result-of};
 ghost use Rattle.code.proofs.Extras.{Numbered, ExtrasNumbered};
@@ -110,4 +113,28 @@ pub extern "C" fn axp_unpack(blocks: u32, packed: &[u8], out: &mut [u8]) -> AxpR
     ensures { λ r. ⌜ WasUnpacked blocks (now (packed .entry)) (now (out .entry)) (c-result r) (now (out .exit)) ⌝ }
 {
     for_c(packed::unpack(blocks, packed, out))
+}
+
+// Writer of a cartridge file. C's axp_written is code's Written.
+#[no_mangle]
+pub extern "C" fn axp_file_write(entries: u32, bytes: &[u8], out: &mut [u8]) -> Written
+    ensures { λ r. ⌜ FileWritten entries (now (bytes .entry)) (now (out .entry)) r (now (out .exit)) ⌝ }
+{
+    writer::write(entries, bytes, out)
+}
+
+// The number of a file's entries. C's axp_counted is code's Counted.
+#[no_mangle]
+pub extern "C" fn axp_file_count(file: &[u8]) -> Counted
+    ensures { λ r. ⌜ FileCounted (now (file .entry)) r ⌝ }
+{
+    files::count(file)
+}
+
+// Reader of a cartridge file. C's axp_stretch is code's Stretch.
+#[no_mangle]
+pub extern "C" fn axp_file_entry(file: &[u8], index: u32) -> Stretch
+    ensures { λ r. ⌜ EntryFound (now (file .entry)) index r ⌝ }
+{
+    files::find(file, index)
 }

@@ -20,7 +20,7 @@ pub record Equal (r₁ r₂ : Result) (after₁ after₂ : List ℕ) : Type 0 wh
   pub output : after₁ ≡ after₂
 
 -- The first check that applies is the same one in both.
-first-agree : (cs : List {1} Check) {right₁ right₂ : Check → Type 0} {rest₁ rest₂ goal : Type 0} →
+pub first-agree : (cs : List {1} Check) {right₁ right₂ : Check → Type 0} {rest₁ rest₂ goal : Type 0} →
     ((c : Check) → right₁ c → right₂ c → goal) → (Passed cs → rest₁ → rest₂ → goal) →
     First cs right₁ rest₁ → First cs right₂ rest₂ → goal
 first-agree [] both rest a b = rest tt a b

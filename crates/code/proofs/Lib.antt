@@ -28,6 +28,10 @@ pub mod Accepted
 pub mod Determined
 pub mod RoundTrip
 pub mod Undoing
+pub mod Numerals
+pub mod Cutting
+pub mod Files
+pub mod FileCalls
 pub mod Answering
 pub mod Changed
 pub mod Named

@@ -3,7 +3,7 @@ use mathlib.Core.Path.{_≡_, refl, sym, ap}
 use mathlib.Core.Logic.{inl, inr, _≢_, _↔_, by-cases}
 use mathlib.Core.Bool.{Bool, true, false}
 use mathlib.Core.List.{List, [], _∷_, _++_}
-use Prim.Native.Nat.{ℕ, zero, suc, _+_, _<_, _≤_}
+use Prim.Native.Nat.{ℕ, zero, suc, _<_, _≤_}
 use native.Mathlib.Decide.{decLt, ℕ-discrete}
 use native.Mathlib.Omega.{arith}
 use lib.Dec.{ltb}
@@ -113,12 +113,17 @@ pub each-map : (cs : List {1} Check) {P Q : Check → Type 0} → ((c : Check) �
 each-map [] h e = tt
 each-map (c ∷ cs) h e = (h c (e .0), each-map cs h (e .1))
 
+-- What follows from every check's refusal, and from the rest once the checks are passed, follows.
+pub first-each : (cs : List {1} Check) (right : Check → Type 0) {rest goal : Type 0} →
+    Each (λ c. right c → goal) cs → (Passed cs → rest → goal) → First cs right rest → goal
+first-each [] right each past f = past tt f
+first-each (c ∷ cs) right each past (inl a) = each .0 (a .1)
+first-each (c ∷ cs) right each past (inr a) = first-each cs right (each .1) (λ p. past (a .0, p)) (a .1)
+
 -- What holds of each refusal and of the answers past the checks holds of every answer.
 pub answered : (P : Result → List ℕ → Type 0) (cs : List {1} Check) (done : Result → List ℕ → Type 0) (before : List ℕ) (r : Result) (after : List ℕ) →
     Each (λ c. P (plain (c .number) (c .detail)) before) cs → (done r after → P r after) → Answered cs done before r after → P r after
-answered P [] done before r after each h f = h f
-answered P (c ∷ cs) done before r after each h (inl a) = rw (a .1 .result, a .1 .output) (each .0)
-answered P (c ∷ cs) done before r after each h (inr a) = answered P cs done before r after (each .1) h (a .1)
+answered P cs done before r after each h = first-each cs (Refused r before after) (each-map cs (λ c p a. rw (a .result, a .output) p) each) (λ p. h)
 
 -- None of the checks has this number.
 abbrev pub Avoids : ℕ → List {1} Check → Type 0
@@ -143,8 +148,5 @@ pub record Through (cs : List {1} Check) (rest : Type 0) : Type 0 where
 -- A call that answers none of its checks' numbers met none of them.
 pub unrefused : (cs : List {1} Check) (r : Result) (before after : List ℕ) (rest : Type 0) → Avoids (r .answer) cs →
     First cs (Refused r before after) rest → Through cs rest
-unrefused [] r before after rest v f = record { passed = tt; done = f }
-unrefused (c ∷ cs) r before after rest v (inl a) = absurd (v .0 (sym (ap answer-of (a .1 .result))))
-unrefused (c ∷ cs) r before after rest v (inr a) =
-    let t = unrefused cs r before after rest (v .1) (a .1) in
-    record { passed = (a .0, t .passed); done = t .done }
+unrefused cs r before after rest v =
+    first-each cs (Refused r before after) (each-map cs (λ c d a. absurd (d (sym (ap answer-of (a .result))))) v) (λ p f. record { passed = p; done = f })

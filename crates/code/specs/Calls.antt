@@ -15,19 +15,28 @@ use Rattle.code.specs.Lost.{bit-values}
 use Rattle.code.specs.Reach.{pick, Extra, none, extra, InReach}
 use Rattle.code.specs.Packed.{packed-size, PackedForm}
 use Rattle.code.specs.Spans.{Table}
+use Rattle.code.specs.Files.{entry-blocks, entry-record, entry-size, entry-count, entry-offset, entry-length, directory-size}
 use Rattle.code.specs.Numbers.{
   Check,
+  count-check,
+  length-check,
   flag-check,
   reach-check,
   padding-check,
   table-check,
   window-check,
+  left-check,
+  file-check,
+  fit-check,
   input-checks,
   size-checks,
   image-checks,
   Decides,
   First,
 }
+use Rattle.code.specs.declared.Written.{Written}
+use Rattle.code.specs.declared.Stretch.{Stretch}
+use Rattle.code.specs.declared.Counted.{Counted}
 
 -- ## What a call returns
 
@@ -230,3 +239,48 @@ pub record Unpacks (n : ℕ) (packed before : List ℕ) (r : Result) (after : Li
   pub bits : (i : ℕ) → i < image-size (base n) → getD after i 0 < 2
   pub form : PackedForm n (cells (base n) after) packed
   pub stays : Stays (image-size (base n)) before after
+
+-- ## Document 02, note 6: cartridge files
+
+-- "the writer goes entry by entry: 2 (under six bytes left), 1, 2 (too few bytes for the count), 8", where xs are the bytes left;
+abbrev pub entry-checks : List ℕ → List {1} Check
+entry-checks xs =
+    left-check 6 (length xs) ∷ count-check (entry-blocks xs) ∷ left-check (entry-size (entry-blocks xs)) (length xs)
+    ∷ padding-check (entry-blocks xs) (entry-record xs) ∷ []
+
+-- "bytes left over give 2";
+abbrev pub all-entries-checks : ℕ → List ℕ → List {1} Check
+all-entries-checks zero xs = length-check 0 (length xs) ∷ []
+all-entries-checks (suc k) xs = entry-checks xs ++ all-entries-checks k (drop (entry-size (entry-blocks xs)) xs)
+
+-- "11, … the writer's last check."
+abbrev pub write-checks : ℕ → List ℕ → ℕ → List {1} Check
+write-checks count xs room = all-entries-checks count xs ++ (fit-check count (directory-size count + length xs) room ∷ [])
+
+-- "returns the file's length, 0 with a refusal"
+pub record WriteRefused (before : List ℕ) (r : Written) (after : List ℕ) (c : Check) : Type 0 where
+  pub result : r ≡ record { answer = c .number; length = 0 }
+  pub output : after ≡ before
+
+-- 0: the file fills the output's first bytes, and later bytes stay.
+pub record Writes (file before : List ℕ) (r : Written) (after : List ℕ) : Type 0 where
+  pub result : r ≡ record { answer = 0; length = length file }
+  pub output : after ≡ file ++ drop (length file) before
+
+-- "An index past the last entry gives 0 and an empty stretch." (It has no number of its own; this stands in the reader's list of checks.)
+abbrev pub index-check : List ℕ → ℕ → Check
+index-check file i = record { number = 0; detail = 0; applies = entry-count file ≤ i }
+
+-- The reader gives 10 first.
+abbrev pub index-checks : List ℕ → ℕ → List {1} Check
+index-checks file i = file-check file ∷ index-check file i ∷ []
+
+-- Entry i as a stretch of the file, or an empty stretch where a check applies.
+abbrev pub no-stretch : ℕ → Stretch
+no-stretch number = record { answer = number; offset = 0; length = 0 }
+
+abbrev pub entry-stretch : List ℕ → ℕ → Stretch
+entry-stretch file i = record { answer = 0; offset = entry-offset file i; length = entry-length file i }
+
+abbrev pub counted : ℕ → ℕ → Counted
+counted number count = record { answer = number; entries = count }

@@ -1,12 +1,16 @@
 -- The contracts of the calls. Document 01's have its shape of n blocks, its checks and its flags, bit g of the flag word for track number
 -- g.
-use mathlib.Core.List.{List}
+use mathlib.Core.Path.{_≡_}
+use mathlib.Core.List.{List, [], _∷_}
 use Prim.Native.Nat.{ℕ}
+use lib.ListN.{length}
 use Rattle.code.specs.Record.{base}
 use Rattle.code.specs.Flags.{TrackFlags, whole, word-flags}
 use Rattle.code.specs.Lost.{read-values, with-lost}
 use Rattle.code.specs.Reach.{flags-code}
 use Rattle.code.specs.Spans.{Table, span-flags}
+use Rattle.code.specs.Files.{entry-count, entry-at, cut, file-of}
+use Rattle.code.specs.Numbers.{file-check, First}
 use Rattle.code.specs.Calls.{
   Result,
   Answered,
@@ -24,7 +28,17 @@ use Rattle.code.specs.Calls.{
   Packs,
   unpack-checks,
   Unpacks,
+  write-checks,
+  WriteRefused,
+  Writes,
+  index-checks,
+  no-stretch,
+  entry-stretch,
+  counted,
 }
+use Rattle.code.specs.declared.Written.{Written}
+use Rattle.code.specs.declared.Stretch.{Stretch}
+use Rattle.code.specs.declared.Counted.{Counted}
 
 -- Encoder: block count, payload, output before, answer, output after.
 abbrev pub Encoded : ℕ → List ℕ → List ℕ → Result → List ℕ → Type 0
@@ -75,3 +89,20 @@ WasPacked n image before = Answered (pack-checks n image before) (Packs n image 
 -- Unpacking: block count, packed form, output before, answer, output after.
 abbrev pub WasUnpacked : ℕ → List ℕ → List ℕ → Result → List ℕ → Type 0
 WasUnpacked n packed before = Answered (unpack-checks n packed before) (Unpacks n packed before) before
+
+-- Writer of a cartridge file, of document 02, note 6: number of entries, their bytes, output before, answer, output after.
+abbrev pub FileWritten : ℕ → List ℕ → List ℕ → Written → List ℕ → Type 0
+FileWritten count entries before r after =
+    First (write-checks count entries (length before)) (WriteRefused before r after) (Writes (file-of (cut count entries)) before r after)
+
+-- Reader of a cartridge file: file, index, answer and stretch of the file.
+abbrev pub EntryFound : List ℕ → ℕ → Stretch → Type 0
+EntryFound file i r = First (index-checks file i) (λ c. r ≡ no-stretch (c .number)) (r ≡ entry-stretch file i)
+
+-- The same: file, index, the part handed out.
+abbrev pub EntryShown : List ℕ → ℕ → List ℕ → Type 0
+EntryShown file i part = First (index-checks file i) (λ c. part ≡ []) (part ≡ entry-at file i)
+
+-- The number of a file's entries: file, answer and number.
+abbrev pub FileCounted : List ℕ → Counted → Type 0
+FileCounted file r = First (file-check file ∷ []) (λ c. r ≡ counted (c .number) 0) (r ≡ counted 0 (entry-count file))

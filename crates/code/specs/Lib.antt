@@ -7,6 +7,7 @@ pub mod Lost
 pub mod Reach
 pub mod Packed
 pub mod Spans
+pub mod Files
 pub mod Numbers
 pub mod Calls
 pub mod Contracts

@@ -11,6 +11,7 @@ use Rattle.code.specs.Flags.{TrackFlags, CellFlags}
 use Rattle.code.specs.Reach.{pick, flags-code}
 use Rattle.code.specs.Packed.{PaddingSet}
 use Rattle.code.specs.Spans.{Table, Broken, WindowTooMany}
+use Rattle.code.specs.Files.{Cartridge, NoRoom}
 
 -- A number, the detail that goes with it, and the condition under which it is given.
 pub record Check : Type 1 where
@@ -59,6 +60,18 @@ table-check cells table = record { number = 9; detail = 0; applies = Broken cell
 -- 6, where flags are by stretch: at some position the tracks with a flagged cell in its window have code 0.
 abbrev pub window-check : Shape → CellFlags → Check
 window-check sh flag = record { number = 6; detail = 0; applies = WindowTooMany sh flag }
+
+-- 2, of the writer of a file: fewer bytes are left than an entry takes.
+abbrev pub left-check : ℕ → ℕ → Check
+left-check needed left = record { number = 2; detail = 0; applies = left < needed }
+
+-- 10: the file, its directory or an entry's length or count breaks the rules.
+abbrev pub file-check : List ℕ → Check
+file-check file = record { number = 10; detail = 0; applies = ¬ Cartridge file }
+
+-- 11: the entries are too many, or they do not fit the file or the output.
+abbrev pub fit-check : ℕ → ℕ → ℕ → Check
+fit-check count size room = record { number = 11; detail = 0; applies = NoRoom count size room }
 
 -- ## Lists of checks, in checking order
 

@@ -1,8 +1,9 @@
 -- The three points of the supply, a record a point and a field a sentence, what document 01 says besides of the values that repair
--- and tracing return, and what document 02 says of packing, of lost cells, of records of no blocks and of flags by stretch. Whatever
--- the contracts allow has them: `point-1`, `point-2`, `point-3`, `point-3-by-cells` and `values` of proofs/Supply, `packing-undone`
--- and `unpacking-undone` of proofs/Undoing, `as-before` of proofs/Lost, `no-blocks` of proofs/NoBlocks, `span-values` and `as-repair`
--- of proofs/Stretches, `repair-is-a-case` of proofs/WholeTracks.
+-- and tracing return, and what document 02 says of packing, of lost cells, of records of no blocks, of flags by stretch and of
+-- cartridge files. Whatever the contracts allow has them: `point-1`, `point-2`, `point-3`, `point-3-by-cells` and `values` of
+-- proofs/Supply, `packing-undone` and `unpacking-undone` of proofs/Undoing, `as-before` of proofs/Lost, `no-blocks` of proofs/NoBlocks,
+-- `span-values` and `as-repair` of proofs/Stretches, `repair-is-a-case` of proofs/WholeTracks, `writer-point-1`, `written-yields` and
+-- `reader-point-1` of proofs/FileCalls.
 use mathlib.Core.Path.{_≡_}
 use mathlib.Core.Logic.{_⊎_, _≢_, _↔_}
 use mathlib.Core.Bool.{true, false}
@@ -15,9 +16,10 @@ use Rattle.code.specs.Payload.{payload-size, Carries}
 use Rattle.code.specs.Flags.{TrackFlags, whole, word-flags, flag-count, Within}
 use Rattle.code.specs.Packed.{packed-size}
 use Rattle.code.specs.Reach.{flags-code, most, Extra, none, extra, AtMostOne, Ambiguous}
-use Rattle.code.specs.Calls.{Result, plain, Stays, changed-in, changed-cells, RepairNear, TraceNear}
+use Rattle.code.specs.Calls.{Result, plain, Stays, changed-in, changed-cells, RepairNear, TraceNear, no-stretch, counted}
 use Rattle.code.specs.Lost.{bit-values, is-lost}
 use Rattle.code.specs.Spans.{Table, span-flags, Broken, WindowsCoded, OnTracks, word-table}
+use Rattle.code.specs.Files.{entry-blocks, entry-record, Entry, entry-count, directory-size, Cartridge, cut, joined}
 use Rattle.code.specs.Contracts.{
   Encoded,
   ReadBy,
@@ -31,7 +33,14 @@ use Rattle.code.specs.Contracts.{
   Viewed,
   WasPacked,
   WasUnpacked,
+  FileWritten,
+  EntryFound,
+  EntryShown,
+  FileCounted,
 }
+use Rattle.code.specs.declared.Written.{Written}
+use Rattle.code.specs.declared.Stretch.{Stretch}
+use Rattle.code.specs.declared.Counted.{Counted}
 
 -- The call met none of these numbers.
 abbrev pub MetNone : List ℕ → Result → Type 0
@@ -45,6 +54,7 @@ pub data Mending : Type 0 where
 -- ## Point 1
 
 -- A call, the track view aside, with its input: any block count, length, cell value and flag word. `before` is the output as it came.
+-- The calls on cartridge files, which return other values, have their point 1 at the end of this file.
 pub data Input : Type 0 where
   encode : (n : ℕ) (payload before : List ℕ) → Input
   read : (n : ℕ) (image before : List ℕ) → Input
@@ -101,7 +111,7 @@ LeftBy7 (unpack n packed before) after = after ≡ before
 
 pub record Point1 (input : Input) (r : Result) (after : List ℕ) : Type 0 where
   -- "The answer to any call but the track view is 0 or one of the seven numbers, for every block count, length, cell value and flag word."
-  -- Document 02: "The later numbers join the seven in point 1 of the supply": nine by now.
+  -- Document 02: "The later numbers join the seven in point 1 of the supply": of these calls up to 9.
   pub answer : r .answer ≤ 9
   pub own-answer : OwnAnswer input (r .answer)
   -- "It always comes, it presumes no check made by the calling program," — that the calls of crates/codec, crates/repair,
@@ -314,3 +324,60 @@ abbrev pub RepairIsACase : ℕ → ℕ → List ℕ → List ℕ → Type 0
 RepairIsACase n word image before =
     word < 2 ^ all-tracks (base n) → ((s : TrackSet) (t : ℕ) → t < tracks (base n) s → call-flags n word image s t ≡ word-flags (base n) word s t) →
     (r : Result) (after : List ℕ) → SpansRepaired n (word-table (base n) word) image before r after ↔ Repaired n word image before r after
+
+-- ## Document 02, note 6: a cartridge file
+
+-- Unpacking, into an output with room, gives one of these answers for the record of an entry.
+abbrev pub UnpacksTo : (ℕ → Type 0) → List ℕ → Type 0
+UnpacksTo answers entry =
+    let n = entry-blocks entry in
+    (before : List ℕ) (q : Result) (last : List ℕ) → WasUnpacked n (entry-record entry) before q last → image-size (base n) ≤ length before → answers (q .answer)
+
+-- Point 1, of the writer. That it always comes and presumes no check is, as of the other calls, what the checker proves of the function.
+pub record WriterPoint1 (count : ℕ) (entries before : List ℕ) (r : Written) (after : List ℕ) : Type 0 where
+  -- "The later numbers join the seven in point 1 of the supply": eleven by now. It is 0, 1, 2, 8 or 11.
+  pub answer : r .answer ≤ 11
+  pub own-answer : (r .answer ≤ 2) ⊎ ((r .answer ≡ 8) ⊎ (r .answer ≡ 11))
+  pub fixed : (other : Written) (bytes : List ℕ) → FileWritten count entries before other bytes → (other ≡ r) × (bytes ≡ after)
+  -- "returns the file's length, 0 with a refusal"; "This and every later number leaves the output as it came."
+  pub untouched : r .answer ≢ 0 → (r .length ≡ 0) × (after ≡ before)
+  pub later : Stays (r .length) before after
+
+-- "a written file yields the entries in that order": of a file that was written with answer 0.
+pub record Yields (count : ℕ) (entries file : List ℕ) : Type 0 where
+  -- The writer's bytes are that many entries, one after another, and their records unpack.
+  pub each : (i : ℕ) → i < count → Entry (getD (cut count entries) i [])
+  pub together : joined (cut count entries) ≡ entries
+  pub unpacked : (i : ℕ) → i < count → UnpacksTo (λ k. k ≡ 0) (getD (cut count entries) i [])
+  -- The file follows the rules; the reader counts that many, hands out each of them in that order, and nothing past the last.
+  pub accepted : Cartridge file
+  pub counts : (r : Counted) → FileCounted file r → r ≡ counted 0 count
+  pub yields : (i : ℕ) (part : List ℕ) → i < count → EntryShown file i part → part ≡ getD (cut count entries) i []
+  pub ends : (i : ℕ) (part : List ℕ) → count ≤ i → EntryShown file i part → part ≡ []
+
+abbrev pub WrittenYields : ℕ → List ℕ → List ℕ → Type 0
+WrittenYields count entries before =
+    (r : Written) (after : List ℕ) → FileWritten count entries before r after → r .answer ≡ 0 → Yields count entries (take (r .length) after)
+
+-- What the reader hands out as entry i lies behind the directory and within the file, and is a key, a count and a packed record of that
+-- count. Only a padding bit can keep the record from being unpacked.
+pub record HandedOut (file : List ℕ) (r : Stretch) : Type 0 where
+  pub behind : directory-size (entry-count file) ≤ r .offset
+  pub within : r .offset + r .length ≤ length file
+  pub entry : Entry (take (r .length) (drop (r .offset) file))
+  pub unpacked : UnpacksTo (λ k. (k ≡ 0) ⊎ (k ≡ 8)) (take (r .length) (drop (r .offset) file))
+
+-- Point 1, of the reader. That it never looks past the file is what the checker proves of each index in crates/files.
+pub record ReaderPoint1 (file : List ℕ) (i : ℕ) (r : Stretch) : Type 0 where
+  pub answer : (r .answer ≡ 0) ⊎ (r .answer ≡ 10)
+  pub fixed : (other : Stretch) → EntryFound file i other → other ≡ r
+  -- "10, the file, directory or an entry's length or count breaks these rules, checked first by the reader, with an empty stretch"
+  pub said-10 : (r .answer ≡ 10) ↔ (¬ Cartridge file)
+  pub empty : r .answer ≢ 0 → r ≡ no-stretch 10
+  -- "The reader hands out entry i"; "An index past the last entry gives 0 and an empty stretch."
+  pub handed-out : r .answer ≡ 0 → i < entry-count file → HandedOut file r
+  pub past-last : r .answer ≡ 0 → entry-count file ≤ i → r ≡ no-stretch 0
+  -- The part is that stretch of the caller's own file.
+  pub shown : (part : List ℕ) → EntryShown file i part → part ≡ take (r .length) (drop (r .offset) file)
+  -- The number of entries is told of the same files.
+  pub numbered : (c : Counted) → FileCounted file c → (r .answer ≡ 0 → c ≡ counted 0 (entry-count file)) × (r .answer ≢ 0 → c ≡ counted 10 0)

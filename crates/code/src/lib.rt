@@ -81,6 +81,28 @@ pub struct Span {
     pub length: u32,
 }
 
+// What the writer of a cartridge file answers: 0 or a number, and the file's length.
+#[repr(C)]
+pub struct Written {
+    pub answer: u32,
+    pub length: u32,
+}
+
+// What the reader of a cartridge file answers: 0 or a number, and an entry as a stretch of the file.
+#[repr(C)]
+pub struct Stretch {
+    pub answer: u32,
+    pub offset: u32,
+    pub length: u32,
+}
+
+// 0 or a number, and how many entries a cartridge file has.
+#[repr(C)]
+pub struct Counted {
+    pub answer: u32,
+    pub entries: u32,
+}
+
 // No extra track, or one with its track number.
 pub enum Extra {
     None,

@@ -95,7 +95,7 @@ pub fn pack(blocks: u32, image: &[u8], out: &mut [u8]) -> Answer
 // ---- Unpacking
 
 // Is a padding bit 1?
-fn padding_set(packed: &[u8], n: usize) -> bool
+pub fn padding_set(packed: &[u8], n: usize) -> bool
     requires { ⌜ PackedSized n (now packed) ⌝ }
     ensures { λ r. ⌜ PaddingTested n (now (packed .entry)) r ⌝ }
 {

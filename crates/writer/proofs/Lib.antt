@@ -1,0 +1,5 @@
+pub mod Bytes
+pub mod Entries
+pub mod Listing
+pub mod Filing
+pub mod Fitting
