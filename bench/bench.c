@@ -28,7 +28,7 @@
  * ones it takes more. An output has room past every result.
  */
 enum { FEW_INPUTS = 3 * AXP_TRACKS, INPUTS = 24 * AXP_TRACKS };
-enum { SET = AXP_TRACKS / 2, ROOM = AXP_MAX_IMAGE_SIZE + 64, ROWS = 21 };
+enum { SET = AXP_TRACKS / 2, ROOM = AXP_MAX_FILE_SIZE + 64, ROWS = 23 };
 
 /* The runs of each, spread over some passes over all cases, so that a slow spell of the machine falls on no case alone. */
 enum { PASSES = 20, RUNS = 160 };
@@ -55,11 +55,12 @@ struct runner {
     double best;
 };
 
-/* A case, which is a row of the table. The second runner is plain C, where there is one. */
+/* A case, which is a row of the table, and the payload bytes of an input, 0 where it works on none. The second runner is plain C, where
+ * there is one. */
 struct row {
     const char *name;
     struct input *inputs;
-    size_t input_len, result_len, rounds;
+    size_t input_len, result_len, payload, rounds;
     int runner_count;
     struct runner runners[2];
 };
@@ -121,6 +122,27 @@ CALL(trace, n, x->flags, x->bytes, len, out, out_len)
 CALL(repair_spans, n, x->spans, x->span_count, x->bytes, len, out, out_len)
 CALL(pack, n, x->bytes, len, out, out_len)
 CALL(unpack, n, x->bytes, len, out, out_len)
+
+/* Of files: the flags are the number of entries, or an index. Their answers stand in fields of the one type. */
+static axp_result of_written(axp_written w) { return (axp_result){w.answer, 0, 0, w.length, AXP_NO_EXTRA, AXP_NO_EXTRA}; }
+static axp_result of_counted(axp_counted c) { return (axp_result){c.answer, 0, 0, c.entries, AXP_NO_EXTRA, AXP_NO_EXTRA}; }
+static axp_result of_stretch(axp_stretch s) { return (axp_result){s.answer, 0, s.offset, s.length, AXP_NO_EXTRA, AXP_NO_EXTRA}; }
+
+#define FILE_CALL(name, of, ...) \
+    static axp_result library_##name(uint32_t n, const struct input *x, size_t len, uint8_t *out, size_t out_len) \
+    { \
+        (void)n, (void)out, (void)out_len; \
+        return of(axp_##name(__VA_ARGS__)); \
+    } \
+    static axp_result c_##name(uint32_t n, const struct input *x, size_t len, uint8_t *out, size_t out_len) \
+    { \
+        (void)n, (void)out, (void)out_len; \
+        return of(plain_##name(__VA_ARGS__)); \
+    }
+
+FILE_CALL(file_write, of_written, x->flags, x->bytes, len, out, out_len)
+FILE_CALL(file_count, of_counted, x->bytes, len)
+FILE_CALL(file_entry, of_stretch, x->bytes, len, x->flags)
 
 /* The answer 0 with no changed cell. */
 static const axp_result unchanged = {AXP_OK, 0, 0, 0, AXP_NO_EXTRA, AXP_NO_EXTRA};
@@ -413,6 +435,7 @@ static struct row *add_row(const char *name, size_t input_len, size_t result_len
     row->inputs = allocate((size_t)input_count * sizeof *row->inputs);
     row->input_len = input_len;
     row->result_len = result_len;
+    row->payload = AXP_PAYLOAD_SIZE(blocks);
     row->runner_count = plain ? 2 : 1;
     row->runners[0] = (struct runner){"the library", library, library_out, 1e18};
     row->runners[1] = (struct runner){"plain C", plain, plain_out, 1e18};
@@ -599,6 +622,84 @@ static void compare_padding(const char *name)
     free_row();
 }
 
+/* The entries of a file: as many as fit it. Their bytes, and the file's. */
+static uint32_t most_entries(void)
+{
+    size_t most = (AXP_MAX_FILE_SIZE - 2) / (8 + AXP_ENTRY_SIZE(blocks));
+    return (uint32_t)(most < AXP_MAX_ENTRIES ? most : AXP_MAX_ENTRIES);
+}
+
+static size_t entries_size(void) { return most_entries() * AXP_ENTRY_SIZE(blocks); }
+static size_t file_size(void) { return AXP_DIRECTORY_SIZE(most_entries()) + entries_size(); }
+
+static void put_number(uint8_t *to, size_t width, size_t x)
+{
+    while (width-- > 0) {
+        to[width] = (uint8_t)x;
+        x /= 256;
+    }
+}
+
+/* Entries of records by chance, and behind them their file. */
+static uint8_t *entries_and_file(void)
+{
+    uint8_t *entries = allocate(entries_size() + file_size()), *file = entries + entries_size();
+    size_t size = AXP_ENTRY_SIZE(blocks), first = AXP_DIRECTORY_SIZE(most_entries());
+    put_number(file, 2, most_entries());
+    for (size_t k = 0; k < most_entries(); k++) {
+        uint8_t *image = packed_image(), *entry = entries + k * size;
+        put_number(entry, 4, next());
+        put_number(entry + 4, 2, blocks);
+        memcpy(entry + 6, image + AXP_IMAGE_SIZE(blocks), AXP_PACKED_SIZE(blocks));
+        free(image);
+        put_number(file + 2 + 8 * k, 4, first + k * size);
+        put_number(file + 6 + 8 * k, 4, size);
+    }
+    memcpy(file + first, entries, entries_size());
+    return entries;
+}
+
+static void add_file_write(const char *name)
+{
+    struct row *row = add_row(name, entries_size(), file_size(), library_file_write, c_file_write);
+    row->payload = most_entries() * AXP_PAYLOAD_SIZE(blocks);
+    for (int i = 0; i < input_count; i++) {
+        uint8_t *entries = entries_and_file();
+        row->inputs[i] = plain_input(most_entries(), entries, entries, entries + entries_size(),
+                                     of_written((axp_written){AXP_OK, (uint32_t)file_size()}));
+    }
+}
+
+static void add_file_entry(const char *name)
+{
+    struct row *row = add_row(name, file_size(), 0, library_file_entry, c_file_entry);
+    row->payload = 0;
+    for (int i = 0; i < input_count; i++) {
+        uint8_t *entries = entries_and_file();
+        uint32_t index = next() % most_entries();
+        size_t size = AXP_ENTRY_SIZE(blocks), offset = AXP_DIRECTORY_SIZE(most_entries()) + index * size;
+        row->inputs[i] = plain_input(index, entries + entries_size(), entries, entries,
+                                     of_stretch((axp_stretch){AXP_OK, (uint32_t)offset, (uint32_t)size}));
+    }
+}
+
+/* Compared and not timed: the number of entries, of a file and of one that is damaged in one of its lengths. */
+static void compare_count(const char *name)
+{
+    struct row *row = add_row(name, file_size(), 0, library_file_count, c_file_count);
+    for (int i = 0; i < input_count; i++) {
+        uint8_t *entries = entries_and_file(), *file = entries + entries_size();
+        axp_counted c = {AXP_OK, most_entries()};
+        if (i % 2 == 1) {
+            file[9 + 8 * (next() % most_entries())] ^= 1;
+            c = (axp_counted){AXP_DAMAGED_FILE, 0};
+        }
+        row->inputs[i] = plain_input(0, file, entries, entries, of_counted(c));
+    }
+    compare(row);
+    free_row();
+}
+
 #ifdef WITH_ISAL
 /* Each payload in fourteen parts, and four parts made of them. Behind them are the parts that are lost. */
 static void add_isal(const char *name)
@@ -659,15 +760,17 @@ static int bar_count;
 
 static void print_row(const struct row *row, double copy)
 {
-    double a = row->runners[0].best, b = row->runners[1].best, speed = (double)AXP_PAYLOAD_SIZE(blocks) / a * 1e3;
+    double a = row->runners[0].best, b = row->runners[1].best, speed = (double)row->payload / a * 1e3;
     printf("%5u  %-36s %10.0f %8.1f", blocks, row->name, a, a / copy);
-    if (row->runner_count == 2)
+    if (row->runner_count == 2 && row->payload == 0)
+        printf(" %10.0f %8.1f %9.2f\n", b, b / copy, a / b);
+    else if (row->runner_count == 2)
         printf(" %10.0f %8.1f %9.2f %9.0f\n", b, b / copy, a / b, speed);
     else if (row->runners[0].call != copy_image)
         printf(" %10s %8s %9s %9.0f\n", "", "", "", speed);
     else
         printf("\n");
-    if (blocks == 256 && row->runner_count == 2)
+    if (blocks == 256 && row->runner_count == 2 && row->payload > 0)
         bars[bar_count++] = (struct bar){row->name, a / copy, b / copy};
 }
 
@@ -695,6 +798,9 @@ static void all(uint32_t n)
     add_pack("pack");
     add_unpack("unpack");
     compare_padding("unpack to 8");
+    add_file_write("write a full file");
+    add_file_entry("find an entry of a full file");
+    compare_count("count the entries of a full file");
 #ifdef WITH_ISAL
     if (n > 0)
         add_isal("(ISA-L, 14 + 4, four lost)");

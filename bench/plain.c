@@ -1008,3 +1008,101 @@ axp_result plain_repair_spans(uint32_t blocks, const axp_span *spans, size_t spa
     memcpy(out, image, image_len);
     return answer(7, 0);
 }
+
+/* ---- cartridge files */
+
+static inline uint32_t two_bytes(const uint8_t *bytes) { return (uint32_t)bytes[0] << 8 | bytes[1]; }
+
+static inline uint32_t four_bytes(const uint8_t *bytes) { return two_bytes(bytes) << 16 | two_bytes(bytes + 2); }
+
+static inline bool is_entry(const uint8_t *bytes, size_t len)
+{
+    if (len < 6)
+        return false;
+    uint32_t n = two_bytes(bytes + 4);
+    return n <= AXP_MAX_BLOCKS && len == AXP_ENTRY_SIZE(n);
+}
+
+/* Where entry i ends, and 0 where it breaks a rule. The directory and the entries before it end at `from`. */
+static inline size_t entry_end(const uint8_t *file, size_t file_len, size_t from, size_t i)
+{
+    size_t offset = four_bytes(file + 2 + 8 * i), end = offset + four_bytes(file + 6 + 8 * i);
+    return from <= offset && end <= file_len && is_entry(file + offset, end - offset) ? end : 0;
+}
+
+axp_counted plain_file_count(const uint8_t *file, size_t file_len)
+{
+    static const axp_counted damaged = {AXP_DAMAGED_FILE, 0};
+    if (file_len > AXP_MAX_FILE_SIZE || file_len < 2)
+        return damaged;
+    uint32_t count = two_bytes(file);
+    size_t end = AXP_DIRECTORY_SIZE(count);
+    if (count > AXP_MAX_ENTRIES || file_len < end)
+        return damaged;
+    for (size_t i = 0; i < count; i++) {
+        end = entry_end(file, file_len, end, i);
+        if (end == 0)
+            return damaged;
+    }
+    return (axp_counted){AXP_OK, count};
+}
+
+axp_stretch plain_file_entry(const uint8_t *file, size_t file_len, uint32_t index)
+{
+    axp_counted r = plain_file_count(file, file_len);
+    if (r.answer || index >= r.entries)
+        return (axp_stretch){r.answer, 0, 0};
+    const uint8_t *place = file + 2 + 8 * (size_t)index;
+    return (axp_stretch){AXP_OK, four_bytes(place), four_bytes(place + 4)};
+}
+
+static inline size_t entry_bytes(const uint8_t *entry) { return AXP_ENTRY_SIZE(two_bytes(entry + 4)); }
+
+/* The number of the entry at the start of so many bytes, or 0. */
+static inline uint32_t check_entry(const uint8_t *bytes, size_t left)
+{
+    if (left < 6)
+        return AXP_INPUT_LENGTH;
+    uint32_t n = two_bytes(bytes + 4);
+    if (n > AXP_MAX_BLOCKS)
+        return AXP_BLOCK_COUNT;
+    if (left < AXP_ENTRY_SIZE(n))
+        return AXP_INPUT_LENGTH;
+    return padding_zero(bytes + 6, (size_t)n + 2) ? AXP_OK : AXP_PADDING;
+}
+
+static inline uint8_t *put_four(uint8_t *to, uint32_t x)
+{
+    to[0] = (uint8_t)(x >> 24);
+    to[1] = (uint8_t)(x >> 16);
+    to[2] = (uint8_t)(x >> 8);
+    to[3] = (uint8_t)x;
+    return to + 4;
+}
+
+axp_written plain_file_write(uint32_t entries, const uint8_t *restrict bytes, size_t bytes_len, uint8_t *restrict out, size_t out_len)
+{
+    size_t from = 0;
+    for (uint32_t i = 0; i < entries; i++) {
+        uint32_t number = check_entry(bytes + from, bytes_len - from);
+        if (number)
+            return (axp_written){number, 0};
+        from += entry_bytes(bytes + from);
+    }
+    if (from != bytes_len)
+        return (axp_written){AXP_INPUT_LENGTH, 0};
+    size_t first = AXP_DIRECTORY_SIZE(entries);
+    if (entries > AXP_MAX_ENTRIES || bytes_len > AXP_MAX_FILE_SIZE - first || out_len < first + bytes_len)
+        return (axp_written){AXP_NO_ROOM, 0};
+    uint8_t *place = out;
+    *place++ = 0;
+    *place++ = (uint8_t)entries;
+    from = 0;
+    for (uint32_t i = 0; i < entries; i++) {
+        size_t size = entry_bytes(bytes + from);
+        place = put_four(put_four(place, (uint32_t)(first + from)), (uint32_t)size);
+        from += size;
+    }
+    memcpy(place, bytes, bytes_len);
+    return (axp_written){AXP_OK, (uint32_t)(first + bytes_len)};
+}

@@ -15,5 +15,8 @@ axp_result plain_repair_spans(uint32_t blocks, const axp_span *spans, size_t spa
                               size_t out_len);
 axp_result plain_pack(uint32_t blocks, const uint8_t *image, size_t image_len, uint8_t *out, size_t out_len);
 axp_result plain_unpack(uint32_t blocks, const uint8_t *packed, size_t packed_len, uint8_t *out, size_t out_len);
+axp_written plain_file_write(uint32_t entries, const uint8_t *bytes, size_t bytes_len, uint8_t *out, size_t out_len);
+axp_counted plain_file_count(const uint8_t *file, size_t file_len);
+axp_stretch plain_file_entry(const uint8_t *file, size_t file_len, uint32_t index);
 
 #endif

@@ -1,16 +1,17 @@
 /*
  * axp.h - repair of 18-track cartridge records in the adaptive cross-parity code
  *
- * Seven calls on numbers and slices: an encoder, a reader of good records, a repairer for flagged
- * tracks, a tracer for unflagged ones, a repairer for flagged stretches of cells, and two calls that
- * turn an image to its packed form and back. Each call always returns, allocates nothing, keeps no
- * state between calls and reads and writes nothing but the slices that it is given, so it may be
- * called from any number of threads at once.
+ * Ten calls on numbers and slices: an encoder, a reader of good records, a repairer for flagged
+ * tracks, a tracer for unflagged ones, a repairer for flagged stretches of cells, two calls that turn
+ * an image to its packed form and back, and three that write a cartridge file, count its entries and
+ * find one of them. Each call always returns, allocates nothing, keeps no state between calls and reads
+ * and writes nothing but the slices that it is given, so it may be called from any number of threads at
+ * once.
  *
  * What a call answers and every byte that it leaves in the output are fixed by the project's
  * documents 01 and 02 and proved of the code behind axp_encode, axp_read, axp_repair, axp_trace,
- * axp_repair_spans, axp_pack and axp_unpack. The static inline functions of this header are
- * conveniences and no proved code.
+ * axp_repair_spans, axp_pack, axp_unpack, axp_file_write, axp_file_count and axp_file_entry. The static
+ * inline functions of this header are conveniences and no proved code.
  *
  * A record has n blocks, n from 0 to 256, and 18 tracks of L = 8n + 15 cells: tracks 0 to 8 of set A,
  * then tracks 0 to 8 of set B. Its image is 18 * L bytes, one cell a byte, value 0 or 1; track number
@@ -30,9 +31,27 @@
  * n + 2 bytes, eight cells a byte, the first cell most significant: cell m is the bit of value
  * 128 >> m % 8 in its byte m / 8. L + 1 is 8(n + 2), so the last bit of a track is padding; it is 0.
  *
+ * A cartridge file has up to 64 packed records in at most 65,536 bytes. Its numbers have the most
+ * significant byte first:
+ *
+ *     byte 0        2 bytes  the number of entries, at most 64
+ *     byte 2 + 8i   4 bytes  the offset of entry i, its first byte in the file
+ *     byte 6 + 8i   4 bytes  the length of entry i, in bytes
+ *
+ * and an entry is AXP_ENTRY_SIZE(n) bytes, n from 0 to 256:
+ *
+ *     byte 0        4 bytes  the key, any number
+ *     byte 4        2 bytes  the block count n
+ *     byte 6                 the packed form of its image, AXP_PACKED_SIZE(n) bytes
+ *
+ * Each entry begins where the directory, AXP_DIRECTORY_SIZE(entries) bytes, or the entry before it
+ * ended, or later, and ends within the file. What stands between entries and behind the last means
+ * nothing. Whether a packed record's padding bits are 0 the file's rules leave open: the writer takes no
+ * other, and axp_unpack says it of each.
+ *
  * C89 to C23 and C++, with <stdint.h> and <stddef.h>. The inline helpers at the end of this header
- * (axp_flag_a, axp_flag_b, axp_strerror) are there from C99 on and in C++; C89 has no inline functions,
- * so a C89 program has the calls, the types and the constants alone.
+ * (axp_flag_a, axp_flag_b, axp_entry_key, axp_entry_blocks, axp_strerror) are there from C99 on and in
+ * C++; C89 has no inline functions, so a C89 program has the calls, the types and the constants alone.
  */
 #ifndef AXP_H
 #define AXP_H
@@ -46,7 +65,7 @@ extern "C" {
 
 /* The version of this header and of the library that it was made for. */
 #define AXP_VERSION_MAJOR 0
-#define AXP_VERSION_MINOR 5
+#define AXP_VERSION_MINOR 6
 #define AXP_VERSION_PATCH 0
 
 /* The most blocks of a record. */
@@ -61,10 +80,17 @@ extern "C" {
 #define AXP_PAYLOAD_SIZE(n) (14 * (size_t)(n))
 #define AXP_PACKED_SIZE(n) (AXP_TRACKS * ((size_t)(n) + 2))
 
+/* The bytes of an entry of n blocks, of the directory of k entries, and the most of a file. */
+#define AXP_ENTRY_SIZE(n) (6 + AXP_PACKED_SIZE(n))
+#define AXP_DIRECTORY_SIZE(k) (2 + 8 * (size_t)(k))
+#define AXP_MAX_FILE_SIZE 65536
+#define AXP_MAX_ENTRIES 64
+
 /* The sizes for 256 blocks: buffers of these sizes serve every record. */
 #define AXP_MAX_IMAGE_SIZE 37134
 #define AXP_MAX_PAYLOAD_SIZE 3584
 #define AXP_MAX_PACKED_SIZE 4644
+#define AXP_MAX_ENTRY_SIZE 4650
 
 /* A cell that the drive could not read. */
 #define AXP_LOST 2
@@ -79,13 +105,16 @@ extern "C" {
  * The answers, in checking order: the first whose condition holds is given, and AXP_OK where none
  * does; axp_repair_spans checks 9 in place of 5, after 4 and before 6. The encoder gives AXP_OK and 1 to
  * 3, the reader AXP_OK, 1 to 4 and 7, repairer and tracer AXP_OK and 1 to 7, axp_repair_spans AXP_OK, 1
- * to 4, 9, 6 and 7, packing AXP_OK and 1 to 4, unpacking AXP_OK, 1 to 3 and 8.
+ * to 4, 9, 6 and 7, packing AXP_OK and 1 to 4, unpacking AXP_OK, 1 to 3 and 8. axp_file_write goes entry
+ * by entry, and gives AXP_OK, 1, 2, 8 and, last, 11; axp_file_count and axp_file_entry give AXP_OK and
+ * 10.
  */
 enum axp_answer {
     AXP_OK = 0,          /* the result fills the first bytes of the output; later bytes stay */
     AXP_BLOCK_COUNT = 1, /* the block count is above 256 */
     AXP_INPUT_LENGTH = 2,/* the input's length is not that of a payload (encoder), a packed form
-                            (unpacking) or an image (the others) of that block count */
+                            (unpacking) or an image (the others) of that block count, or not that of so
+                            many entries (axp_file_write) */
     AXP_OUTPUT_SHORT = 3,/* the output is shorter than a payload (reader), a packed form (packing) or an
                             image (the others) of that block count */
     AXP_CELL_VALUE = 4,  /* the image has a cell above 2 (reader, repairers, tracer) or above 1
@@ -96,12 +125,15 @@ enum axp_answer {
                             axp_repair_spans: so many tracks with a flagged cell within 16 positions */
     AXP_NO_RECORD = 7,   /* no good record is in reach; for the reader: the image is not good */
     AXP_PADDING = 8,     /* a padding bit of the packed form is 1 */
-    AXP_SPANS = 9        /* the table of spans has more than 64 pairs, a length 0, a pair beyond the
+    AXP_SPANS = 9,       /* the table of spans has more than 64 pairs, a length 0, a pair beyond the
                             image, or an offset before the previous pair's end */
+    AXP_DAMAGED_FILE = 10,/* the file, its directory or an entry's length or count breaks the rules of a
+                            cartridge file */
+    AXP_NO_ROOM = 11     /* more than 64 entries, or they do not fit a file of 65,536 bytes or the output */
 };
 
 /*
- * What a call returns.
+ * What a call returns; those on cartridge files return the structs further down.
  *
  * answer   0 or a number of enum axp_answer.
  * detail   with AXP_CELL_VALUE the index of the first bad cell in the image, else 0.
@@ -132,15 +164,41 @@ typedef struct axp_span {
 } axp_span;
 
 /*
+ * What axp_file_write returns: 0 or a number of enum axp_answer, and with 0 the bytes of the file, else
+ * 0. No number of the file calls has a detail.
+ */
+typedef struct axp_written {
+    uint32_t answer;
+    uint32_t length;
+} axp_written;
+
+/* What axp_file_count returns: AXP_OK and the number of the file's entries, or AXP_DAMAGED_FILE and 0. */
+typedef struct axp_counted {
+    uint32_t answer;
+    uint32_t entries;
+} axp_counted;
+
+/*
+ * What axp_file_entry returns: AXP_OK and `length` bytes of the file from byte `offset` on, or
+ * AXP_DAMAGED_FILE. An empty stretch, with AXP_DAMAGED_FILE or past the last entry, has offset and
+ * length 0; every entry has a length of 42 at least.
+ */
+typedef struct axp_stretch {
+    uint32_t answer;
+    uint32_t offset;
+    uint32_t length;
+} axp_stretch;
+
+/*
  * All calls
  *
  * The caller sees to it that each pointer is valid for its length (a null pointer may stand with
  * length 0), that input and output do not overlap, and that no other thread writes to either during
- * the call. Nothing else is presumed: every block count, length, cell value, flag word and table has an
- * answer.
+ * the call. Nothing else is presumed: every block count, length, cell value, flag word, table, number of
+ * entries, file and index has an answer.
  *
- * Answers 1 to 6, 8 and 9 leave the output as it came. Bytes of the output past the result stay as they
- * came with every answer.
+ * Answers 1 to 6, 8, 9 and 11 leave the output as it came. Bytes of the output past the result stay as
+ * they came with every answer.
  */
 
 /*
@@ -248,6 +306,44 @@ axp_result axp_pack(uint32_t blocks, const uint8_t *image, size_t image_len, uin
  */
 axp_result axp_unpack(uint32_t blocks, const uint8_t *packed, size_t packed_len, uint8_t *out, size_t out_len);
 
+/*
+ * Writes a cartridge file.
+ *
+ * entries  how many entries there are. With more than there are bytes for the call ends with the bytes.
+ * bytes    their bytes, one entry after another, each AXP_ENTRY_SIZE(n) bytes for its block count n. They
+ *          are looked at one by one: fewer than six bytes left give AXP_INPUT_LENGTH, a count above 256
+ *          AXP_BLOCK_COUNT, fewer bytes left than the count asks for AXP_INPUT_LENGTH, a padding bit that
+ *          is 1 AXP_PADDING. Bytes left over behind the last give AXP_INPUT_LENGTH. Then AXP_NO_ROOM.
+ *          That a packed record is a good one is not looked at; keys may be anything, and twice.
+ * out      with answer 0 its first `length` bytes, AXP_DIRECTORY_SIZE(entries) + bytes_len, are the file:
+ *          the directory, and the entries behind it in that order, without gaps. axp_file_count counts
+ *          `entries` of it, and axp_file_entry finds the i-th of them as entry i.
+ *
+ * Answers: AXP_OK, AXP_BLOCK_COUNT, AXP_INPUT_LENGTH, AXP_PADDING, AXP_NO_ROOM.
+ */
+axp_written axp_file_write(uint32_t entries, const uint8_t *bytes, size_t bytes_len, uint8_t *out, size_t out_len);
+
+/*
+ * The number of entries of a cartridge file. All rules of a file are looked at.
+ *
+ * Answers: AXP_OK, AXP_DAMAGED_FILE.
+ */
+axp_counted axp_file_count(const uint8_t *file, size_t file_len);
+
+/*
+ * Finds an entry of a cartridge file. All rules of the file are looked at, of whichever entry, before
+ * it is handed out.
+ *
+ * index    from 0 on, in the directory's order. Past the last entry the stretch is empty, with AXP_OK.
+ *
+ * With AXP_OK and a length above 0, file + offset is an entry within the file and behind its directory:
+ * axp_entry_key, axp_entry_blocks, and from offset + 6 on a packed form of that block count, which
+ * axp_unpack takes or refuses with AXP_PADDING.
+ *
+ * Answers: AXP_OK, AXP_DAMAGED_FILE.
+ */
+axp_stretch axp_file_entry(const uint8_t *file, size_t file_len, uint32_t index);
+
 #if defined(__cplusplus) || (defined(__STDC_VERSION__) && __STDC_VERSION__ >= 199901L)
 
 /*
@@ -257,6 +353,14 @@ axp_result axp_unpack(uint32_t blocks, const uint8_t *packed, size_t packed_len,
  */
 static inline uint32_t axp_flag_a(unsigned t) { return (uint32_t)1 << (t < 9 ? t : 31); }
 static inline uint32_t axp_flag_b(unsigned t) { return (uint32_t)1 << (t < 9 ? 9 + t : 31); }
+
+/* The key and the block count of an entry, which has at least six bytes. Not proved code. */
+static inline uint32_t axp_entry_key(const uint8_t *entry)
+{
+    return (uint32_t)entry[0] << 24 | (uint32_t)entry[1] << 16 | (uint32_t)entry[2] << 8 | entry[3];
+}
+
+static inline uint32_t axp_entry_blocks(const uint8_t *entry) { return (uint32_t)entry[4] << 8 | entry[5]; }
 
 /* A short text for an answer. Not proved code. */
 static inline const char *axp_strerror(uint32_t answer)
@@ -272,6 +376,8 @@ static inline const char *axp_strerror(uint32_t answer)
     case AXP_NO_RECORD: return "no good record is in reach";
     case AXP_PADDING: return "a padding bit is 1";
     case AXP_SPANS: return "the table of spans is out of order";
+    case AXP_DAMAGED_FILE: return "the file is no cartridge file";
+    case AXP_NO_ROOM: return "the entries do not fit the file or the output";
     default: return "unknown answer";
     }
 }
