@@ -332,6 +332,105 @@ static void block_counts(void)
     expect(strcmp(axp_strerror(AXP_BLOCK_COUNT), "the block count is above 256") == 0, "text of a block count");
 }
 
+/* Is this an empty stretch, with this answer? */
+static int is_empty(axp_stretch s, uint32_t answer) { return s.answer == answer && s.offset == 0 && s.length == 0; }
+
+/* Is a file of so many bytes damaged, for each call and every index? */
+static int is_damaged(const uint8_t *file, size_t len)
+{
+    axp_counted c = axp_file_count(file, len);
+    return c.answer == AXP_DAMAGED_FILE && c.entries == 0 && is_empty(axp_file_entry(file, len, 0), AXP_DAMAGED_FILE) &&
+           is_empty(axp_file_entry(file, len, 4294967295u), AXP_DAMAGED_FILE);
+}
+
+/* Was the writer refused, with its output left as it came? */
+static int is_unwritten(axp_written w, uint32_t answer, const uint8_t *out, size_t len)
+{
+    return w.answer == answer && w.length == 0 && is_filled(out, 0, len, 0x55);
+}
+
+/* Three records in a cartridge file: written, walked and read back, then what is refused. */
+static void files(void)
+{
+    static const uint32_t counts[] = {2, 0, 256};
+    static uint8_t payloads[3][AXP_MAX_PAYLOAD_SIZE], entries[3 * AXP_MAX_ENTRY_SIZE], image[AXP_MAX_IMAGE_SIZE], payload[AXP_MAX_PAYLOAD_SIZE];
+    static uint8_t file[AXP_MAX_FILE_SIZE + 1], other[AXP_MAX_FILE_SIZE + 1];
+    size_t used = 0, size, at, i;
+    axp_written w;
+    axp_counted c;
+    uint32_t k;
+    for (k = 0; k < 3; k++) {
+        uint8_t *entry = entries + used;
+        uint32_t n = counts[k];
+        for (i = 0; i < AXP_PAYLOAD_SIZE(n); i++)
+            payloads[k][i] = (uint8_t)(31 * i + k);
+        entry[0] = 0xfe;
+        entry[1] = entry[2] = 0;
+        entry[3] = (uint8_t)k;
+        entry[4] = (uint8_t)(n >> 8);
+        entry[5] = (uint8_t)n;
+        expect(axp_encode(n, payloads[k], AXP_PAYLOAD_SIZE(n), image, sizeof image).answer == AXP_OK &&
+               axp_pack(n, image, AXP_IMAGE_SIZE(n), entry + 6, AXP_PACKED_SIZE(n)).answer == AXP_OK, "an entry");
+        used += AXP_ENTRY_SIZE(n);
+    }
+    size = AXP_DIRECTORY_SIZE(3) + used;
+    memset(file, 0x55, sizeof file);
+    w = axp_file_write(3, entries, used, file, sizeof file);
+    expect(w.answer == AXP_OK && w.length == size && is_filled(file, size, sizeof file, 0x55), "write a file");
+    c = axp_file_count(file, size);
+    expect(c.answer == AXP_OK && c.entries == 3, "count the entries");
+    for (k = 0, at = AXP_DIRECTORY_SIZE(3); k < 3; k++) {
+        axp_stretch s = axp_file_entry(file, size, k);
+        uint32_t n = counts[k];
+        expect(s.answer == AXP_OK && s.offset == at && s.length == AXP_ENTRY_SIZE(n), "find an entry");
+        expect(axp_entry_key(file + s.offset) == 0xfe000000u + k && axp_entry_blocks(file + s.offset) == n, "key and count of an entry");
+        expect(axp_unpack(n, file + s.offset + 6, s.length - 6, image, sizeof image).answer == AXP_OK &&
+               axp_read(n, image, AXP_IMAGE_SIZE(n), payload, sizeof payload).answer == AXP_OK &&
+               memcmp(payload, payloads[k], AXP_PAYLOAD_SIZE(n)) == 0, "the payload of an entry");
+        at += s.length;
+    }
+    expect(is_empty(axp_file_entry(file, size, 3), AXP_OK) && is_empty(axp_file_entry(file, size, 4294967295u), AXP_OK), "past the last entry");
+    expect(axp_file_count(file, AXP_MAX_FILE_SIZE).answer == AXP_OK && is_damaged(file, AXP_MAX_FILE_SIZE + 1), "the most bytes of a file");
+    expect(axp_file_write(0, NULL, 0, other, 2).length == 2 && axp_file_count(other, 2).answer == AXP_OK && is_empty(axp_file_entry(other, 2, 0), AXP_OK), "no entries");
+
+    /* Damage: what is cut off, and each number of the directory and of a head one more and one less. */
+    expect(is_damaged(NULL, 0) && is_damaged(file, 1) && is_damaged(file, 25) && is_damaged(file, size - 1), "a file that is cut");
+    memcpy(other, file, size);
+    for (i = 0; i < 3; i++) {
+        size_t numbers[3];
+        unsigned j;
+        numbers[0] = 5 + 8 * i;
+        numbers[1] = 9 + 8 * i;
+        numbers[2] = axp_file_entry(file, size, (uint32_t)i).offset + 5;
+        for (j = 0; j < 3; j++) {
+            other[numbers[j]]++;
+            expect(is_damaged(other, size), "a number one more");
+            other[numbers[j]] = (uint8_t)(other[numbers[j]] - 2);
+            expect(is_damaged(other, size), "a number one less");
+            other[numbers[j]]++;
+        }
+    }
+    other[1] = 65;
+    expect(is_damaged(other, size), "65 entries");
+    expect(memcmp(other + 2, file + 2, size - 2) == 0, "a file is not written to");
+
+    /* The writer's numbers, each with what a later one is about wrong too. */
+    memset(other, 0x55, sizeof other);
+    expect(is_unwritten(axp_file_write(4, entries, used, other, 0), AXP_INPUT_LENGTH, other, sizeof other), "an entry of no bytes");
+    expect(is_unwritten(axp_file_write(4294967295u, entries, used, other, sizeof other), AXP_INPUT_LENGTH, other, sizeof other), "more entries than bytes");
+    expect(is_unwritten(axp_file_write(4294967295u, NULL, 0, NULL, 0), AXP_INPUT_LENGTH, other, sizeof other), "entries of no bytes");
+    expect(is_unwritten(axp_file_write(3, entries, used - 1, other, 0), AXP_INPUT_LENGTH, other, sizeof other), "an entry that is cut");
+    expect(is_unwritten(axp_file_write(2, entries, used, other, 0), AXP_INPUT_LENGTH, other, sizeof other), "bytes left over");
+    expect(is_unwritten(axp_file_write(3, entries, used, other, size - 1), AXP_NO_ROOM, other, sizeof other), "an output one byte short");
+    entries[used - 1] |= 1;
+    expect(is_unwritten(axp_file_write(3, entries, used, other, 0), AXP_PADDING, other, sizeof other), "a padding bit before an output of no bytes");
+    entries[4] = 1;
+    entries[5] = 1;
+    expect(is_unwritten(axp_file_write(3, entries, used, other, sizeof other), AXP_BLOCK_COUNT, other, sizeof other), "257 blocks in an entry");
+    expect(strcmp(axp_strerror(AXP_DAMAGED_FILE), "the file is no cartridge file") == 0, "text of a damaged file");
+    expect(strcmp(axp_strerror(AXP_NO_ROOM), "the entries do not fit the file or the output") == 0, "text of no room");
+}
+
 int main(void)
 {
     static const uint32_t counts[] = {0, 1, 2, 7, 16, 100, 256};
@@ -341,11 +440,13 @@ int main(void)
     no_blocks();
     block_counts();
     flags();
+    files();
     expect(axp_repair(1, 0, NULL, 0, NULL, 0).answer == AXP_INPUT_LENGTH, "no image");
     expect(strcmp(axp_strerror(AXP_PADDING), "a padding bit is 1") == 0, "text of an answer");
     expect(strcmp(axp_strerror(AXP_SPANS), "the table of spans is out of order") == 0, "text of a table");
     expect(sizeof(axp_result) == 24, "size of axp_result");
     expect(sizeof(axp_span) == 8, "size of axp_span");
+    expect(sizeof(axp_written) == 8 && sizeof(axp_counted) == 8 && sizeof(axp_stretch) == 12, "sizes of the results of files");
     printf("client: %s\n", failures ? "FAILED" : "ok");
     return failures != 0;
 }

@@ -1,18 +1,20 @@
 //! The comparison of the archive with document 01's examples and with the second decoder, in classes of inputs: each
-//! takes its generator, the number of rounds and the tally. The last seven classes are those of flags by stretch, in
-//! spans.rs, the three before them those of packing and unpacking, the seven before these those of lost cells, and the one
-//! before these that of records of no blocks, which are in most other classes too.
+//! takes its generator, the number of rounds and the tally. The last eight classes are those of cartridge files, in files.rs,
+//! the seven before them those of flags by stretch, in spans.rs, the three before these those of packing and unpacking, the
+//! seven before these those of lost cells, and the one before these that of records of no blocks, which are in most other
+//! classes too.
 
 use crate::damage::{damage, lose, Random};
 use crate::ffi::{Answer, Call, LOST};
+use crate::files;
 use crate::second::{base, changed, code, expected, extra, lost_tracks, number, Rules, Shape};
 use crate::spans;
 
 /// The answers that there are: 0 and the numbers.
-pub const ANSWERS: usize = 10;
+pub const ANSWERS: usize = 12;
 
 /// The calls in the tally's order, and the answers that each can give.
-pub const CALLS: [(&str, &[usize]); 7] = [
+pub const CALLS: [(&str, &[usize]); 10] = [
     ("encode", &[0, 1, 2, 3]),
     ("read", &[0, 1, 2, 3, 4, 7]),
     ("repair", &[0, 1, 2, 3, 4, 5, 6, 7]),
@@ -20,13 +22,16 @@ pub const CALLS: [(&str, &[usize]); 7] = [
     ("repair_spans", &[0, 1, 2, 3, 4, 6, 7, 9]),
     ("pack", &[0, 1, 2, 3, 4]),
     ("unpack", &[0, 1, 2, 3, 8]),
+    ("file_write", &[0, 1, 2, 8, 11]),
+    ("file_count", &[0, 10]),
+    ("file_entry", &[0, 10]),
 ];
 
 /// A class of inputs.
 pub type Class = fn(&mut Random, u64, &mut Tally);
 
 /// The classes, by the name that their generator has too.
-pub const CLASSES: [(&str, Class); 27] = [
+pub const CLASSES: [(&str, Class); 35] = [
     ("examples", examples),
     ("every_block_count", every_block_count),
     ("every_payload_bit", every_payload_bit),
@@ -54,6 +59,14 @@ pub const CLASSES: [(&str, Class); 27] = [
     ("span_tracks", spans::span_tracks),
     ("every_span", spans::every_span),
     ("span_lengths", spans::span_lengths),
+    ("file_records", files::file_records),
+    ("files_written", files::files_written),
+    ("file_refusals", files::file_refusals),
+    ("file_limits", files::file_limits),
+    ("file_rules", files::file_rules),
+    ("file_layouts", files::file_layouts),
+    ("file_noise", files::file_noise),
+    ("every_file_byte", files::every_file_byte),
 ];
 
 /// The compared calls: calls of the archive of which the answer and every byte of the output were compared.

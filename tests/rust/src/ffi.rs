@@ -1,4 +1,4 @@
-//! The archive's seven calls, as C programs see them.
+//! The archive's ten calls, as C programs see them.
 
 /// `axp_result` of include/axp.h.
 #[repr(C)]
@@ -20,6 +20,31 @@ pub struct Span {
     pub length: u32,
 }
 
+/// `axp_written`: 0 or a number, and the length of the file.
+#[repr(C)]
+#[derive(Clone, Copy, Debug, PartialEq, Eq)]
+pub struct Written {
+    pub answer: u32,
+    pub length: u32,
+}
+
+/// `axp_counted`: 0 or a number, and how many entries a file has.
+#[repr(C)]
+#[derive(Clone, Copy, Debug, PartialEq, Eq)]
+pub struct Counted {
+    pub answer: u32,
+    pub entries: u32,
+}
+
+/// `axp_stretch`: 0 or a number, and a stretch of a file.
+#[repr(C)]
+#[derive(Clone, Copy, Debug, PartialEq, Eq)]
+pub struct Stretch {
+    pub answer: u32,
+    pub offset: u32,
+    pub length: u32,
+}
+
 /// `AXP_NO_EXTRA`.
 pub const NO_EXTRA: u32 = u32::MAX;
 
@@ -34,6 +59,24 @@ extern "C" {
     fn axp_repair_spans(blocks: u32, spans: *const Span, spans_len: usize, image: *const u8, image_len: usize, out: *mut u8, out_len: usize) -> Answer;
     fn axp_pack(blocks: u32, image: *const u8, image_len: usize, out: *mut u8, out_len: usize) -> Answer;
     fn axp_unpack(blocks: u32, packed: *const u8, packed_len: usize, out: *mut u8, out_len: usize) -> Answer;
+    fn axp_file_write(entries: u32, bytes: *const u8, bytes_len: usize, out: *mut u8, out_len: usize) -> Written;
+    fn axp_file_count(file: *const u8, file_len: usize) -> Counted;
+    fn axp_file_entry(file: *const u8, file_len: usize, index: u32) -> Stretch;
+}
+
+/// The archive's writer of a cartridge file.
+pub fn file_write(entries: u32, bytes: &[u8], out: &mut [u8]) -> Written {
+    unsafe { axp_file_write(entries, bytes.as_ptr(), bytes.len(), out.as_mut_ptr(), out.len()) }
+}
+
+/// The archive's count of a file's entries.
+pub fn file_count(file: &[u8]) -> Counted {
+    unsafe { axp_file_count(file.as_ptr(), file.len()) }
+}
+
+/// The archive's reader of a file.
+pub fn file_entry(file: &[u8], index: u32) -> Stretch {
+    unsafe { axp_file_entry(file.as_ptr(), file.len(), index) }
 }
 
 /// A call, with its flags or its table where it takes some.

@@ -142,3 +142,43 @@ fn every_span() {
 fn span_lengths() {
     compare("span_lengths");
 }
+
+#[test]
+fn file_records() {
+    compare("file_records");
+}
+
+#[test]
+fn files_written() {
+    compare("files_written");
+}
+
+#[test]
+fn file_refusals() {
+    compare("file_refusals");
+}
+
+#[test]
+fn file_limits() {
+    compare("file_limits");
+}
+
+#[test]
+fn file_rules() {
+    compare("file_rules");
+}
+
+#[test]
+fn file_layouts() {
+    compare("file_layouts");
+}
+
+#[test]
+fn file_noise() {
+    compare("file_noise");
+}
+
+#[test]
+fn every_file_byte() {
+    compare("every_file_byte");
+}

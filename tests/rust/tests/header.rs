@@ -30,7 +30,13 @@ fn from_source(source: &str) -> Vec<String> {
         let name = &part[..part.find('(').unwrap()];
         let parameters = &part[part.find('(').unwrap() + 1..part.find(')').unwrap()];
         let result = part[part.find("->").unwrap() + 2..].split_whitespace().next().unwrap();
-        assert_eq!(result, "AxpResult", "{name}");
+        let returned = match result {
+            "AxpResult" => "axp_result",
+            "Written" => "axp_written",
+            "Counted" => "axp_counted",
+            "Stretch" => "axp_stretch",
+            other => panic!("{name}: a result of type {other}"),
+        };
         let c: Vec<String> = parameters
             .split(',')
             .map(str::trim)
@@ -46,7 +52,7 @@ fn from_source(source: &str) -> Vec<String> {
                 }
             })
             .collect();
-        all.push(format!("axp_result {name}({});", c.join(", ")));
+        all.push(format!("{returned} {name}({});", c.join(", ")));
     }
     all
 }
@@ -60,12 +66,13 @@ fn between<'a>(text: &'a str, from: &str, to: &str) -> &'a str {
 fn calls() {
     let header = folded(&file("include/axp.h"));
     let wanted = from_source(&file("crates/axp_c/src/lib.rt"));
-    assert_eq!(wanted.len(), 7);
+    assert_eq!(wanted.len(), 10);
     for call in &wanted {
         assert!(header.contains(call.as_str()), "include/axp.h does not declare: {call}");
     }
     // And it declares no other.
-    assert_eq!(header.matches("axp_result axp_").count(), wanted.len());
+    let declared = ["axp_result", "axp_written", "axp_counted", "axp_stretch"].map(|r| header.matches(&format!("{r} axp_")).count());
+    assert_eq!(declared.iter().sum::<usize>(), wanted.len());
 }
 
 /// The fields of a C struct, and those of the Rattle struct that it is, in order.
@@ -98,6 +105,14 @@ fn span() {
 }
 
 #[test]
+fn file_results() {
+    for (c, rattle) in [("axp_written", "Written"), ("axp_counted", "Counted"), ("axp_stretch", "Stretch")] {
+        let [c, rattle] = fields(c, "crates/code/src/lib.rt", rattle);
+        assert_eq!(c, rattle);
+    }
+}
+
+#[test]
 fn constants() {
     let header = file("include/axp.h");
     let source = file("crates/axp_c/src/lib.rt");
@@ -116,8 +131,18 @@ fn constants() {
     let spans = file("crates/code/specs/Spans.antt");
     let most = between(&spans, "too-long : ", " < table .count");
     assert!(header.contains(&format!("#define AXP_MAX_SPANS {most}\n")));
-    // The numbers are document 01's, 0 to 7 in order, and 8 and 9 of document 02.
+    // The limits and sizes of a cartridge file.
+    let files = file("crates/code/specs/Files.antt");
+    for (name, constant) in [("most-bytes = ", "AXP_MAX_FILE_SIZE"), ("most-entries = ", "AXP_MAX_ENTRIES")] {
+        assert!(header.contains(&format!("#define {constant} {}\n", between(&files, name, "\n"))));
+    }
+    assert!(files.contains("entry-size n = 6 + packed-size n\n"));
+    assert!(header.contains("#define AXP_ENTRY_SIZE(n) (6 + AXP_PACKED_SIZE(n))\n"));
+    assert!(header.contains(&format!("#define AXP_MAX_ENTRY_SIZE {}\n", 6 + 18 * (256 + 2))));
+    assert!(files.contains("directory-size count = 2 + 8 * count\n"));
+    assert!(header.contains("#define AXP_DIRECTORY_SIZE(k) (2 + 8 * (size_t)(k))\n"));
+    // The numbers are document 01's, 0 to 7 in order, and 8 to 11 of document 02.
     let list = folded(between(&header, "enum axp_answer {", "};"));
     let values: Vec<u32> = list.split(',').map(|e| e.split('=').nth(1).unwrap().trim().parse().unwrap()).collect();
-    assert_eq!(values, (0..10).collect::<Vec<u32>>());
+    assert_eq!(values, (0..12).collect::<Vec<u32>>());
 }
