@@ -1,5 +1,5 @@
-# make            the library (build/libaxp.a and build/libaxp.so) and the program (build/axp), proved and built
-# make demo       repairs a damaged sample and shows what was done
+# make            the library (build/libaxp.a and build/libaxp.so) and the program (build/axp), proved and built, and build/axp-file
+# make demo       repairs damaged samples and reads a cartridge file, and shows what was done
 # make test       everything that must pass: proofs, must-fail edits, Rust and C tests
 # make compare    the library beside the second decoder on random calls: AXP_ROUNDS=2400 AXP_SEED=1
 # make bench      the library beside plain C of the same algorithm; the plot goes to docs/bench.svg
@@ -24,7 +24,9 @@ SAMPLE = 16 36900 samples/damaged.img
 LOST_SAMPLE = 16 0 samples/lost.img
 STRETCH_SAMPLE = 16 @samples/stretches.txt samples/stretches.img
 
-all: build/libaxp.a build/libaxp.so build/axp
+WEEK = 20261116=samples/monday.txt 20261117=samples/tuesday.txt 20261118=samples/wednesday.txt
+
+all: build/libaxp.a build/libaxp.so build/axp build/axp-file
 
 build:
 	mkdir -p build
@@ -34,7 +36,7 @@ build/libaxp.a: $(SOURCES) | build
 	rt staticlib axp_c
 	cp target/staticlib/libaxp_c.a $@
 
-# The archive's seven calls, as a shared library.
+# The archive's ten calls, as a shared library.
 build/$(SHARED): build/libaxp.a include/axp.h
 	$(CC) -shared -Wl,-soname,$(SONAME) -Wl,-z,defs -o $@ -Wl,--whole-archive build/libaxp.a -Wl,--no-whole-archive
 
@@ -46,6 +48,9 @@ build/axp: $(SOURCES) | build
 	rt check axp
 	cp target/bin/axp $@
 
+build/axp-file: tools/axp-file.c include/axp.h build/libaxp.a
+	$(CC) -std=c99 $(CFLAGS) $(WARN) -Iinclude -o $@ tools/axp-file.c build/libaxp.a
+
 build/repair: examples/repair.c include/axp.h build/libaxp.a
 	$(CC) -std=c99 $(CFLAGS) $(WARN) -Iinclude -o $@ examples/repair.c build/libaxp.a
 
@@ -55,15 +60,19 @@ build/picture: tools/picture.c include/axp.h build/libaxp.a
 build/sample: tools/sample.c include/axp.h build/libaxp.a
 	$(CC) -std=c99 $(CFLAGS) $(WARN) -Iinclude -o $@ tools/sample.c build/libaxp.a
 
-demo: build/repair build/picture
+demo: build/repair build/picture build/axp-file
 	build/repair $(SAMPLE)
 	build/repair $(LOST_SAMPLE)
 	build/repair $(STRETCH_SAMPLE)
+	build/axp-file list samples/week.axp
+	build/axp-file extract samples/week.axp 0
 	build/picture $(SAMPLE) >build/picture.svg
 	@echo 'the record by track and position, damaged and repaired: build/picture.svg'
 
-sample: build/sample
+sample: build/sample build/axp-file
 	build/sample samples/text.txt samples/good.img samples/damaged.img samples/lost.img samples/stretches.img samples/stretches.txt
+	rm -f samples/week.axp
+	build/axp-file add samples/week.axp $(WEEK)
 
 docs/picture.svg: build/picture samples/damaged.img
 	build/picture $(SAMPLE) >$@
@@ -91,8 +100,8 @@ install: all
 	ln -sf $(SONAME) $(DESTDIR)$(PREFIX)/lib/libaxp.so
 	install -m 644 include/axp.h $(DESTDIR)$(PREFIX)/include/axp.h
 	printf 'prefix=%s\nName: axp\nDescription: repair of 18-track cartridge records\nVersion: %s\nCflags: -I$${prefix}/include\nLibs: -L$${prefix}/lib -laxp\n' '$(PREFIX)' '$(VERSION)' >$(DESTDIR)$(PREFIX)/lib/pkgconfig/axp.pc
-	install -m 755 build/axp $(DESTDIR)$(PREFIX)/bin/axp
-	sed 's/@VERSION@/$(VERSION)/' man/axp.1 >$(DESTDIR)$(PREFIX)/share/man/man1/axp.1
+	install -m 755 build/axp build/axp-file $(DESTDIR)$(PREFIX)/bin
+	for page in axp axp-file; do sed 's/@VERSION@/$(VERSION)/' man/$$page.1 >$(DESTDIR)$(PREFIX)/share/man/man1/$$page.1; done
 
 clean:
 	rm -rf build target tests/rust/target
