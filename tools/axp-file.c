@@ -55,22 +55,27 @@ static size_t load(const char *path, uint8_t *bytes, size_t most)
     return bad ? most + 1 : length;
 }
 
-/* Writes a file anew: all of it, or it stays as it was. */
 static int save(const char *path, const uint8_t *bytes, size_t length)
 {
-    char *next = malloc(strlen(path) + 5);
-    FILE *f;
+    FILE *f = fopen(path, "wb");
+    int ok = f && fwrite(bytes, 1, length, f) == length;
+    return f && fclose(f) == 0 && ok;
+}
+
+/* Writes a file anew: all of it, or it stays as it was. */
+static int replace(const char *path, const uint8_t *bytes, size_t length)
+{
+    char *next = malloc(strlen(path) + sizeof ".new");
     int ok;
     if (!next)
         return 0;
     sprintf(next, "%s.new", path);
-    f = fopen(next, "wb");
-    ok = f && fwrite(bytes, 1, length, f) == length;
-    if (f && fclose(f) != 0)
-        ok = 0;
-    ok = ok && rename(next, path) == 0;
-    if (f && !ok)
+    ok = save(next, bytes, length) && rename(next, path) == 0;
+    if (!ok) {
+        int why = errno;
         remove(next);
+        errno = why;
+    }
     free(next);
     return ok;
 }
@@ -179,7 +184,7 @@ static int add(const char *path, int count, char **texts)
     w = axp_file_write(c.entries + (uint32_t)count, entries, used, written, sizeof written);
     if (w.answer != AXP_OK)
         return refused(path, w.answer);
-    return save(path, written, w.length) ? 0 : failed(path);
+    return replace(path, written, w.length) ? 0 : failed(path);
 }
 
 static int extract(const char *path, const char *index, const char *out)

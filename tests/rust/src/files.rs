@@ -209,10 +209,15 @@ pub fn file_refusals(random: &mut Random, rounds: u64, tally: &mut Tally) {
             }
         }
         let mut bytes = entries.concat();
-        match random.below(8) {
+        match random.below(10) {
             0 => bytes.push(random.next() as u8),
             1 => bytes.truncate(random.below(bytes.len() + 1)),
             2 => bytes.extend(random.bytes(42)),
+            // One entry more, of which there are up to eight bytes: its count or not.
+            3 | 4 => {
+                number = number.wrapping_add(1);
+                bytes.extend(vec![[0, 0xff][random.below(2)]; random.below(9)]);
+            }
             _ => {}
         }
         let room = some_room(random, 2 + 8 * count + bytes.len());
@@ -220,9 +225,24 @@ pub fn file_refusals(random: &mut Random, rounds: u64, tally: &mut Tally) {
     }
 }
 
-/// The limits: files of just 65,536 bytes and just more, 0, 63, 64 and 65 entries, and outputs that are one byte short.
+/// The limits: files of just 65,536 bytes and just more, 0 to 65 entries, outputs that are one byte short, and what comes before 11.
 pub fn file_limits(random: &mut Random, rounds: u64, tally: &mut Tally) {
-    for _ in 0..1 + rounds / 200 {
+    for _ in 0..1 + rounds / 1000 {
+        // More bytes and more entries than fit, and the last entry refused.
+        for (count, n) in [(15, 256), (66, 0)] {
+            let entries: Vec<Vec<u8>> = (0..count).map(|_| some_entry(random, n)).collect();
+            let bytes = entries.concat();
+            let mut padded = bytes.clone();
+            *padded.last_mut().unwrap() |= 1;
+            let mut long = bytes.clone();
+            let head = bytes.len() - entry_size(n);
+            long[head + 4..head + 6].copy_from_slice(&[1, 1]);
+            let cut = bytes[..bytes.len() - 1].to_vec();
+            for (bytes, number) in [(bytes, 11), (padded, 8), (long, 1), (cut, 2)] {
+                let (answer, _) = tally.compare_write(random, count as u32, &bytes, MOST_BYTES);
+                assert_eq!(answer.answer, number);
+            }
+        }
         for count in 0..=MOST_ENTRIES + 1 {
             // A written file has an even length.
             for size in [MOST_BYTES - 2, MOST_BYTES, MOST_BYTES + 2] {

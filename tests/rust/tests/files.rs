@@ -23,6 +23,13 @@ fn two_in_a_file() -> Vec<u8> {
     file
 }
 
+/// The bytes with one of another value.
+fn changed(bytes: &[u8], i: usize, x: u8) -> Vec<u8> {
+    let mut other = bytes.to_vec();
+    other[i] = x;
+    other
+}
+
 /// Writes into an output of so many bytes of 0xaa.
 fn written(entries: u32, bytes: &[u8], room: usize) -> (Written, Vec<u8>) {
     let before = vec![0xaa; room];
@@ -97,11 +104,7 @@ fn gaps_and_touching_entries() {
 #[test]
 fn every_rule() {
     let file = two_in_a_file();
-    let with = |i: usize, x: u8| {
-        let mut other = file.clone();
-        other[i] = x;
-        other
-    };
+    let with = |i: usize, x: u8| changed(&file, i, x);
     damaged(&with(0, 1), Damage::TooManyEntries);
     damaged(&with(1, 65), Damage::TooManyEntries);
     damaged(&with(1, 64), Damage::DirectoryCut);
@@ -136,11 +139,7 @@ fn one_rule_alone() {
     let mut file = vec![0, 2, 0, 0, 0, 18, 0, 0, 0, 42, 0, 0, 0, 60, 0, 0, 0, 42];
     file.extend([&zeros[..], &zeros].concat());
     assert_eq!(file_count(&file), Counted { answer: 0, entries: 2 });
-    let with = |i: usize, x: u8| {
-        let mut other = file.clone();
-        other[i] = x;
-        other
-    };
+    let with = |i: usize, x: u8| changed(&file, i, x);
     damaged(&with(13, 59), Damage::Overlap);
     damaged(&with(13, 18), Damage::Overlap);
     damaged(&with(13, 61), Damage::PastTheEnd);
