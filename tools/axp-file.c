@@ -1,5 +1,5 @@
 /*
- * Lists, fills and empties cartridge files. A program over the library, not proved; what the library's calls answer is.
+ * Lists, fills and reads cartridge files. A program over the library, not proved; what the library's calls answer is.
  *
  *     axp-file list FILE                  its entries: index, key, blocks, offset, length, bytes of payload
  *     axp-file add FILE KEY=PAYLOAD...    encodes each payload file and adds its record behind the entries that are there
