@@ -309,7 +309,7 @@ axp_result axp_unpack(uint32_t blocks, const uint8_t *packed, size_t packed_len,
 /*
  * Writes a cartridge file.
  *
- * entries  how many entries there are. With more than there are bytes for the call ends with the bytes.
+ * entries  how many entries there are; where their bytes are fewer, the call ends with the bytes.
  * bytes    their bytes, one entry after another, each AXP_ENTRY_SIZE(n) bytes for its block count n. They
  *          are looked at one by one: fewer than six bytes left give AXP_INPUT_LENGTH, a count above 256
  *          AXP_BLOCK_COUNT, fewer bytes left than the count asks for AXP_INPUT_LENGTH, a padding bit that
