@@ -11,7 +11,7 @@ use lib.Seq.{length-take-le, take-at, getD-append-add, getD-drop}
 use Rattle.code.specs.Record.{base}
 use Rattle.code.specs.Image.{image-size}
 use Rattle.code.specs.Packed.{packed-size, PaddingSet}
-use Rattle.code.specs.Files.{entry-blocks, entry-record, Entry, entry-count, directory-size, entry-at, most-bytes, most-entries, Cartridge, cut, file-of, too-many, too-large, output-short}
+use Rattle.code.specs.Files.{entry-blocks, entry-record, Entry, entry-count, directory-size, entry-at, most-bytes, most-entries, Cartridge, cut, file-of, HasRoom}
 use Rattle.code.specs.Numbers.{Check, padding-check, file-check, fit-check, size-checks, Decides, First, Passed}
 use Rattle.code.specs.Calls.{
   Result,
@@ -37,6 +37,31 @@ use Rattle.code.proofs.Cutting.{entries-each}
 use Rattle.code.proofs.Determined.{first-agree}
 use Rattle.code.proofs.Files.{file-count, file-entry, file-cartridge, length-cut, joined-cut, length-cut-file, cut-entry, cut-unpadded}
 use Rattle.code.proofs.Numbers.{passed-both, passed-last, first-append, first-rest, Each, each-append, each-map, first-each, answer-of, Through}
+
+-- ## What is not broken holds
+
+-- Of an order of two numbers.
+module _ (P : Type 0) (d : ¬ (¬ P)) where
+  le-kept : (a b : ℕ) → (P → a ≤ b) → a ≤ b
+  le-kept a b h = by-cases (decLt b a) (λ l. absurd (d (λ p. let k = h p in omega arith))) (λ l. omega arith)
+
+-- Of the rules of a file, and of the room for one.
+pub cartridge-stable : (file : List ℕ) → ¬ (¬ Cartridge file) → Cartridge file
+cartridge-stable file d = record {
+  small = le-kept _ d _ _ (λ c. c .small);
+  few = le-kept _ d _ _ (λ c. c .few);
+  listed = le-kept _ d _ _ (λ c. c .listed);
+  apart = λ i j h l. le-kept _ d _ _ (λ c. c .apart i j h l);
+  after = λ i h. le-kept _ d _ _ (λ c. c .after i h);
+  within = λ i h. le-kept _ d _ _ (λ c. c .within i h);
+  entries = λ i h. record {
+    blocks = le-kept _ d _ _ (λ c. c .entries i h .blocks);
+    size = by-cases (ℕ-discrete _ _) (λ e. e) (λ n. absurd (d (λ c. n (c .entries i h .size))));
+  };
+}
+
+room-stable : (count size room : ℕ) → ¬ (¬ HasRoom count size room) → HasRoom count size room
+room-stable count size room d = record { few = le-kept _ d _ _ (λ r. r .few); small = le-kept _ d _ _ (λ r. r .small); inside = le-kept _ d _ _ (λ r. r .inside) }
 
 -- ## An entry's record
 
@@ -104,17 +129,17 @@ module _ (count : ℕ) (entries : List ℕ) (room : ℕ) (p : Passed (write-chec
   cut-passed : Passed (all-entries-checks count entries)
   cut-passed = passed-both (all-entries-checks count entries) (fit-check count size room ∷ []) p .0
 
-  fits : ¬ fit-check count size room .applies
-  fits = passed-last (all-entries-checks count entries) (fit-check count size room) p
+  fits : HasRoom count size room
+  fits = room-stable count size room (passed-last (all-entries-checks count entries) (fit-check count size room) p)
 
   few-written : length es ≤ most-entries
-  few-written = by-cases (decLt most-entries count) (λ h. absurd (fits (too-many h))) (λ h. omega (arith, length-cut count entries))
+  few-written = omega (arith, fits .few, length-cut count entries)
 
   small-written : length file ≤ most-bytes
-  small-written = by-cases (decLt most-bytes size) (λ h. absurd (fits (too-large h))) (λ h. omega (arith, length-cut-file count entries cut-passed))
+  small-written = omega (arith, fits .small, length-cut-file count entries cut-passed)
 
   fits-output : length file ≤ room
-  fits-output = by-cases (decLt room size) (λ h. absurd (fits (output-short h))) (λ h. omega (arith, length-cut-file count entries cut-passed))
+  fits-output = omega (arith, fits .inside, length-cut-file count entries cut-passed)
 
   count-written : entry-count file ≡ count
   count-written = file-count es few-written small-written ∙ length-cut count entries
@@ -203,25 +228,6 @@ written-yields count entries before r after w z =
     rw first (file-yields count entries (length before) (t .passed))
 
 -- ## The reader
-
--- A file that does not break the rules follows them.
-module _ (file : List ℕ) (d : ¬ (¬ Cartridge file)) where
-  le-kept : (a b : ℕ) → (Cartridge file → a ≤ b) → a ≤ b
-  le-kept a b h = by-cases (decLt b a) (λ l. absurd (d (λ c. let k = h c in omega arith))) (λ l. omega arith)
-
-  pub cartridge-stable : Cartridge file
-  cartridge-stable = record {
-    small = le-kept _ _ (λ c. c .small);
-    few = le-kept _ _ (λ c. c .few);
-    listed = le-kept _ _ (λ c. c .listed);
-    apart = λ i j h l. le-kept _ _ (λ c. c .apart i j h l);
-    after = λ i h. le-kept _ _ (λ c. c .after i h);
-    within = λ i h. le-kept _ _ (λ c. c .within i h);
-    entries = λ i h. record {
-      blocks = le-kept _ _ (λ c. c .entries i h .blocks);
-      size = by-cases (ℕ-discrete _ _) (λ e. e) (λ n. absurd (d (λ c. n (c .entries i h .size))));
-    };
-  }
 
 -- The answers are fixed by the file and the index.
 module _ (file : List ℕ) where

@@ -4,8 +4,8 @@ use mathlib.Core.List.{List, [], _∷_, _++_}
 use Prim.Native.Nat.{ℕ, zero, suc, _+_, _*_, _/_, _%_, _^_, _<_, _≤_}
 use native.Mathlib.Nat.{pow-suc, div-lt-iff-lt-mul}
 use native.Mathlib.Omega.{arith}
-use lib.ListN.{length, getD, take, drop, length-append, List·getD-append}
-use lib.Seq.{getD-append-add, getD-at, getD-take, getD-drop}
+use lib.ListN.{length, getD, take, length-append, List·getD-append}
+use lib.Seq.{getD-append-add, getD-at, getD-take}
 use Rattle.code.specs.Files.{number, bytes-of}
 
 -- A number of two bytes, and one of four by its halves.
@@ -37,12 +37,9 @@ module _ (k : ℕ) (xs : List ℕ) where
   number-behind ys n i e = number-same k (xs ++ ys) ys (n + i) i
       (λ m l. ap (λ j. getD (xs ++ ys) j 0) (omega arith) ∙ getD-append-add xs ys (i + m) 0)
 
-  -- In the first n bytes, and in those from place n on.
+  -- In the first n bytes.
   pub number-take : (n i : ℕ) → i + k ≤ n → number k (take n xs) i ≡ number k xs i
   number-take n i h = number-same k (take n xs) xs i i (λ m l. getD-take n xs (i + m) 0 (omega arith))
-
-  pub number-drop : (n i : ℕ) → number k (drop n xs) i ≡ number k xs (n + i)
-  number-drop n i = number-same k (drop n xs) xs i (n + i) (λ m l. getD-drop n xs (i + m) 0 ∙ ap (λ j. getD xs j 0) (omega arith))
 
 -- ## The bytes of a number
 

@@ -95,9 +95,9 @@ joined es = foldr _++_ [] es
 abbrev pub file-of : List (List ℕ) → List ℕ
 file-of es = bytes-of 2 (length es) ++ directory (directory-size (length es)) es ++ joined es
 
--- "over 64 entries, or they do not fit the file or the output": number 11, where the file would have `size` bytes and the output has
--- `room`.
-pub data NoRoom (count size room : ℕ) : Type 0 where
-  too-many : most-entries < count → NoRoom count size room
-  too-large : most-bytes < size → NoRoom count size room
-  output-short : room < size → NoRoom count size room
+-- "over 64 entries, or they do not fit the file or the output" is number 11: so many entries, a file of `size` bytes and an output of `room`
+-- are in order.
+pub record HasRoom (count size room : ℕ) : Type 0 where
+  pub few : count ≤ most-entries
+  pub small : size ≤ most-bytes
+  pub inside : size ≤ room

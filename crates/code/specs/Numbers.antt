@@ -11,7 +11,7 @@ use Rattle.code.specs.Flags.{TrackFlags, CellFlags}
 use Rattle.code.specs.Reach.{pick, flags-code}
 use Rattle.code.specs.Packed.{PaddingSet}
 use Rattle.code.specs.Spans.{Table, Broken, WindowTooMany}
-use Rattle.code.specs.Files.{Cartridge, NoRoom}
+use Rattle.code.specs.Files.{Cartridge, HasRoom}
 
 -- A number, the detail that goes with it, and the condition under which it is given.
 pub record Check : Type 1 where
@@ -71,7 +71,7 @@ file-check file = record { number = 10; detail = 0; applies = ¬ Cartridge file 
 
 -- 11: the entries are too many, or they do not fit the file or the output.
 abbrev pub fit-check : ℕ → ℕ → ℕ → Check
-fit-check count size room = record { number = 11; detail = 0; applies = NoRoom count size room }
+fit-check count size room = record { number = 11; detail = 0; applies = ¬ HasRoom count size room }
 
 -- ## Lists of checks, in checking order
 

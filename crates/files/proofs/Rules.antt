@@ -8,17 +8,16 @@ use native.Mathlib.Decide.{ℕ-discrete}
 use native.Mathlib.Omega.{arith}
 use borrow.Author.Count.{below-more}
 use lib.ListN.{length, take, drop, length-take}
-use Rattle.code.specs.Numbers.{Decides}
 use Rattle.code.specs.Files.{entry-count, directory-size, entry-offset, entry-length, entry-end, entry-at, most-bytes, most-entries, Cartridge}
-use Rattle.files.specs.Steps.{EntryRight, EntryTested, Chained}
+use Rattle.files.specs.Steps.{Told, EntryRight, EntryTested, Chained}
 
 -- What a test says, for `true` and for `false`.
 module _ (P : Type 0) (r : Bool) where
-  pub told-yes : Decides P (r ≡ true) (r ≡ false) → r ≡ true → P
+  pub told-yes : Told P r → r ≡ true → P
   told-yes (inl a) e = a .0
   told-yes (inr a) e = absurd (true≢false (sym e ∙ a .1))
 
-  pub told-no : Decides P (r ≡ true) (r ≡ false) → r ≡ false → ¬ P
+  pub told-no : Told P r → r ≡ false → ¬ P
   told-no (inl a) e = absurd (true≢false (sym (a .1) ∙ e))
   told-no (inr a) e = a .0
 

@@ -7,9 +7,9 @@ use lib.ListN.{length}
 use Rattle.code.specs.Numbers.{Decides}
 use Rattle.code.specs.Files.{Entry, entry-count, directory-size, entry-offset, entry-end, entry-at, Cartridge}
 
--- Whether some bytes are an entry.
-abbrev pub EntryTold : List ℕ → Bool → Type 0
-EntryTold xs r = Decides (Entry xs) (r ≡ true) (r ≡ false)
+-- Whether something holds.
+abbrev pub Told : Type 0 → Bool → Type 0
+Told P r = Decides P (r ≡ true) (r ≡ false)
 
 -- Entry i follows the rules, where the directory and the entries before it end at `from`.
 pub record EntryRight (file : List ℕ) (from i : ℕ) : Type 0 where
@@ -29,7 +29,3 @@ pub record Chained (file : List ℕ) (i end : ℕ) : Type 0 where
   pub apart : (j k : ℕ) → j < k → k < i → entry-end file j ≤ entry-offset file k
   pub ends : (j : ℕ) → j < i → entry-end file j ≤ end
   pub next : Cartridge file → i < entry-count file → end ≤ entry-offset file i
-
--- Whether a file follows the rules.
-abbrev pub FileTold : List ℕ → Bool → Type 0
-FileTold file r = Decides (Cartridge file) (r ≡ true) (r ≡ false)

@@ -4,10 +4,10 @@ use code::Stretch;
 ghost use mathlib.Core.Path.{_≡_};
 ghost use Prim.Native.Nat.{_+_, _*_, _≤_};
 ghost use lib.ListN.{length};
-ghost use Rattle.code.specs.Files.{number};
+ghost use Rattle.code.specs.Files.{number, Entry, Cartridge};
 ghost use Rattle.code.specs.Calls.{no-stretch};
 ghost use Rattle.code.specs.Contracts.{EntryFound, EntryShown, FileCounted};
-ghost use Rattle.files.specs.Steps.{EntryTold, EntryTested, FileTold};
+ghost use Rattle.files.specs.Steps.{Told, EntryTested};
 
 // ---- Numbers
 
@@ -31,7 +31,7 @@ pub fn four(bytes: &[u8], at: usize) -> u32
 
 // Are these bytes an entry, by count and length?
 fn is_entry(bytes: &[u8]) -> bool
-    ensures { λ r. ⌜ EntryTold (now (bytes .entry)) r ⌝ }
+    ensures { λ r. ⌜ Told (Entry (now (bytes .entry))) r ⌝ }
 {
     let size = bytes.len();
     if size < 6 {
@@ -68,7 +68,7 @@ fn entry_end(file: &[u8], from: usize, i: usize) -> usize
 
 // Does a file follow the rules?
 pub fn is_right(file: &[u8]) -> bool
-    ensures { λ r. ⌜ FileTold (now (file .entry)) r ⌝ }
+    ensures { λ r. ⌜ Told (Cartridge (now (file .entry))) r ⌝ }
 {
     let size = file.len();
     if 65536 < size {

@@ -2,4 +2,4 @@ pub mod Bytes
 pub mod Entries
 pub mod Listing
 pub mod Filing
-pub mod Fitting
+pub mod Answering

@@ -6,13 +6,13 @@ ghost use mathlib.Core.Path.{_≡_};
 ghost use mathlib.Core.List.{_++_};
 ghost use Prim.Native.Nat.{_+_, _*_, _≤_};
 ghost use lib.ListN.{length};
-ghost use Rattle.code.specs.Files.{bytes-of, entry-blocks, entry-size, directory-size, most-entries, most-bytes, cut, directory, file-of};
+ghost use Rattle.code.specs.Files.{bytes-of, entry-blocks, entry-size, directory-size, most-entries, most-bytes, HasRoom, cut, directory, file-of};
 ghost use Rattle.code.specs.Numbers.{Passed};
 ghost use Rattle.code.specs.Calls.{entry-checks, all-entries-checks};
 ghost use Rattle.code.specs.Contracts.{FileWritten};
 ghost use Rattle.code.specs.Answers.{result-of};
 ghost use Rattle.checks.specs.First.{FirstAnswer};
-ghost use Rattle.writer.specs.Steps.{FitTold};
+ghost use Rattle.files.specs.Steps.{Told};
 
 // ---- Checks
 
@@ -68,7 +68,7 @@ fn check_entries(count: u32, entries: &[u8]) -> Answer
 
 // Does a file with this number of entries, and of `bytes` bytes in them, fit the file's limits and the output?
 fn fits(count: u32, bytes: usize, room: usize) -> bool
-    ensures { λ r. ⌜ FitTold count bytes room r ⌝ }
+    ensures { λ r. ⌜ Told (HasRoom count (directory-size count + bytes) room) r ⌝ }
 {
     if 64 < count {
         return false;
@@ -80,7 +80,10 @@ fn fits(count: u32, bytes: usize, room: usize) -> bool
     if 65536 < size {
         return false;
     }
-    size <= room
+    if room < size {
+        return false;
+    }
+    true
 }
 
 // ---- The file

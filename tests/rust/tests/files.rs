@@ -104,31 +104,35 @@ fn gaps_and_touching_entries() {
 #[test]
 fn every_rule() {
     let file = two_in_a_file();
-    let with = |i: usize, x: u8| changed(&file, i, x);
-    damaged(&with(0, 1), Damage::TooManyEntries);
-    damaged(&with(1, 65), Damage::TooManyEntries);
-    damaged(&with(1, 64), Damage::DirectoryCut);
-    // A third entry: its place is where the first entry begins, which is then in the directory.
-    damaged(&with(1, 3), Damage::InDirectory);
-    damaged(&with(5, 17), Damage::InDirectory);
-    damaged(&with(13, 59), Damage::Overlap);
-    damaged(&with(13, 61), Damage::PastTheEnd);
-    damaged(&file[..119], Damage::PastTheEnd);
-    damaged(&with(9, 41), Damage::Length);
-    damaged(&with(17, 5), Damage::Length);
-    damaged(&with(17, 0), Damage::Length);
-    damaged(&with(23, 1), Damage::Length);
-    damaged(&with(22, 1), Damage::Length);
-    damaged(&with(22, 2), Damage::Blocks);
-    // Offsets that add past 32 bits.
-    damaged(&with(10, 255), Damage::PastTheEnd);
+    use Damage::*;
+    // A byte of the file, its new value, and the rule that is broken. With a third entry the first begins in the directory; an
+    // offset of 255 and 24 bits more adds past 32 bits.
+    for (i, x, why) in [
+        (0, 1, TooManyEntries),
+        (1, 65, TooManyEntries),
+        (1, 64, DirectoryCut),
+        (1, 3, InDirectory),
+        (5, 17, InDirectory),
+        (13, 59, Overlap),
+        (13, 61, PastTheEnd),
+        (10, 255, PastTheEnd),
+        (9, 41, Length),
+        (17, 5, Length),
+        (17, 0, Length),
+        (23, 1, Length),
+        (22, 1, Length),
+        (22, 2, Blocks),
+    ] {
+        damaged(&changed(&file, i, x), why);
+    }
+    damaged(&file[..119], PastTheEnd);
     let mut exchanged = file.clone();
     exchanged[2..10].copy_from_slice(&file[10..18]);
     exchanged[10..18].copy_from_slice(&file[2..10]);
-    damaged(&exchanged, Damage::Unsorted);
+    damaged(&exchanged, Unsorted);
     // A padding bit, and any other of the packed record's, is not looked at.
     for (i, x) in [(25, 0x81), (67, 0x7f), (119, 0x7f)] {
-        assert_eq!(file_count(&with(i, x)), Counted { answer: 0, entries: 2 });
+        assert_eq!(file_count(&changed(&file, i, x)), Counted { answer: 0, entries: 2 });
     }
 }
 
@@ -139,13 +143,11 @@ fn one_rule_alone() {
     let mut file = vec![0, 2, 0, 0, 0, 18, 0, 0, 0, 42, 0, 0, 0, 60, 0, 0, 0, 42];
     file.extend([&zeros[..], &zeros].concat());
     assert_eq!(file_count(&file), Counted { answer: 0, entries: 2 });
-    let with = |i: usize, x: u8| changed(&file, i, x);
-    damaged(&with(13, 59), Damage::Overlap);
-    damaged(&with(13, 18), Damage::Overlap);
-    damaged(&with(13, 61), Damage::PastTheEnd);
+    // With offset 17 the first entry begins with the last byte of the directory, 42, which is then the key's first.
+    for (i, x, why) in [(13, 59, Damage::Overlap), (13, 18, Damage::Overlap), (13, 61, Damage::PastTheEnd), (5, 17, Damage::InDirectory)] {
+        damaged(&changed(&file, i, x), why);
+    }
     damaged(&file[..101], Damage::PastTheEnd);
-    // The first entry begins with the last byte of the directory, 42, which is then the key's first.
-    damaged(&with(5, 17), Damage::InDirectory);
     // 257 blocks and the length that goes with them.
     let long = entry(0, 257, &[0; 18 * 259]);
     damaged(&[&[0, 1, 0, 0, 0, 10, 0, 0, 18, 60][..], &long].concat(), Damage::Blocks);

@@ -5,15 +5,15 @@ use mathlib.Core.Logic.{inl, inr}
 use native.Mathlib.Omega.{arith}
 use borrow.Author.Tests.{not-true, not-false}
 use denote.Ref.{now}
-use Rattle.code.specs.Files.{entry-at}
-use Rattle.files.specs.Steps.{EntryTold}
+use Rattle.code.specs.Files.{Entry, entry-at}
+use Rattle.files.specs.Steps.{Told}
 use Rattle.files.proofs.Rules.{told-yes, told-no, lent}
 use Rattle.files.proofs.entry_end.Statement.{statement}
 use Rattle.files.proofs.entry_end.Tie as tie
 
 -- What the test says of the entry's bytes.
 told : (c : tie.After-is-entry) → let a = c .before .before .before .before .before .before .before .args in
-    EntryTold (entry-at (now (a .file)) (a .i)) (c .is-entry .result)
+    Told (Entry (entry-at (now (a .file)) (a .i))) (c .is-entry .result)
 told c =
     let f = c .before .before .before .before in
     let a = f .before .before .before .args in

@@ -7,10 +7,11 @@ use borrow.Author.Tests.{not-true, not-false}
 use denote.Ref.{now}
 use lib.ListN.{length}
 use lib.Seq.{length-take-le}
-use Rattle.code.specs.Files.{directory-size, NoRoom}
+use Rattle.code.specs.Files.{directory-size, HasRoom}
 use Rattle.code.specs.Numbers.{Passed}
 use Rattle.code.specs.Calls.{all-entries-checks}
-use Rattle.writer.proofs.Fitting.{Roomy, roomy, told-short, told-fits, entries-passed, not-written, not-fitted, file-written}
+use Rattle.files.proofs.Rules.{told-yes, told-no}
+use Rattle.writer.proofs.Answering.{entries-passed, not-written, not-fitted, file-written}
 use Rattle.writer.proofs.write.Statement.{statement}
 use Rattle.writer.proofs.write.Tie as tie
 
@@ -21,13 +22,9 @@ passed c =
     entries-passed (a .count) (now (a .entries)) _ (c .before .before .check-entries .ensures) (omega arith)
 
 -- The file fits.
-fitting : (c : tie.Else2) → let a = c .before .before .before .before .before .before .args in
-    ¬ NoRoom (a .count) (directory-size (a .count) + length (now (a .entries))) (length (now (a .out)))
-fitting c = told-fits _ _ _ _ (c .before .before .fits2 .ensures) (not-false _ (c .if2 .left))
-
 room : (c : tie.Else2) → let a = c .before .before .before .before .before .before .args in
-    Roomy (a .count) (directory-size (a .count) + length (now (a .entries))) (length (now (a .out)))
-room c = roomy _ _ _ (fitting c)
+    HasRoom (a .count) (directory-size (a .count) + length (now (a .entries))) (length (now (a .out)))
+room c = told-yes _ _ (c .before .before .fits2 .ensures) (not-false _ (c .if2 .left))
 
 check-entries-requires : tie.Need-check-entries-requires
 check-entries-requires c κs = search needs
@@ -50,7 +47,7 @@ returns-2 : tie.Need-returns-2
 returns-2 c =
     let e = c .before .before in
     let a = e .before .before .before .before .before .args in
-    not-fitted (a .count) (now (a .entries)) (now (a .out)) _ (passed e) (told-short _ _ _ _ (e .before .fits2 .ensures) (not-true _ (c .before .if2 .taken))) (c .refused2 .ensures)
+    not-fitted (a .count) (now (a .entries)) (now (a .out)) _ (passed e) (told-no _ _ (e .before .fits2 .ensures) (not-true _ (c .before .if2 .taken))) (c .refused2 .ensures)
 
 mul-size : tie.Need-mul-size
 mul-size c = search needs
@@ -84,7 +81,7 @@ returns-3 c =
     let e = f .before .before in
     let s = e .before in
     let a = s .before .before .before .before .before .args in
-    file-written (a .count) (now (a .entries)) (now (a .out)) _ (passed s) (fitting e) _ (f .put-file .ensures) refl
+    file-written (a .count) (now (a .entries)) (now (a .out)) _ (passed s) (room e) _ (f .put-file .ensures) refl
 
 pub write-spec : {M : Type 1} → statement M
 write-spec =
