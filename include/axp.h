@@ -45,7 +45,7 @@
  *     byte 6                 the packed form of its image, AXP_PACKED_SIZE(n) bytes
  *
  * Each entry begins where the directory, AXP_DIRECTORY_SIZE(entries) bytes, or the entry before it
- * ended, or later, and ends within the file. What stands between entries and behind the last means
+ * ended, or later, and ends within the file. What stands in between and behind the last means
  * nothing. Whether a packed record's padding bits are 0 the file's rules leave open: the writer takes no
  * other, and axp_unpack says it of each.
  *

@@ -335,7 +335,7 @@ static void block_counts(void)
 /* Is this an empty stretch, with this answer? */
 static int is_empty(axp_stretch s, uint32_t answer) { return s.answer == answer && s.offset == 0 && s.length == 0; }
 
-/* Is a file of so many bytes damaged, for each call and every index? */
+/* Is a file of so many bytes damaged, for each call, at the first index and the last? */
 static int is_damaged(const uint8_t *file, size_t len)
 {
     axp_counted c = axp_file_count(file, len);
