@@ -1,4 +1,4 @@
-// axp: repairs and traces one image that is read from standard input.
+// axp: repairs and traces one image that is read from standard input. Tracing has document 01's table: ceiling 2.
 use libc::STDIN_FILENO;
 use libc::STDOUT_FILENO;
 ghost use Prim.Native.Nat.{_<_};
@@ -43,5 +43,5 @@ fn main() {
     io::write_all(STDOUT_FILENO, b"\nrepair");
     line(repair::repair(blocks, flags, &input[6..n], &mut out));
     io::write_all(STDOUT_FILENO, b"trace");
-    line(repair::trace(blocks, flags, &input[6..n], &mut out));
+    line(trace::trace_within(blocks, flags, 2, &input[6..n], &mut out));
 }

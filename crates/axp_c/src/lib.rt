@@ -6,7 +6,7 @@ use code::Span;
 use code::Stretch;
 use code::Written;
 ghost use mathlib.Core.Path.{_≡_};
-ghost use Rattle.code.specs.Contracts.{Encoded, WasRead, Repaired, Traced, SpansRepaired, WasPacked, WasUnpacked, FileWritten, FileCounted, EntryFound};
+ghost use Rattle.code.specs.Contracts.{Encoded, WasRead, Repaired, Traced, TracedWithin, SpansRepaired, WasPacked, WasUnpacked, FileWritten, FileCounted, EntryFound};
 ghost use Rattle.code.specs.Spans.{table-of};
 ghost use Rattle.code.specs.Answers.{extra-of, result-of};
 ghost use Rattle.code.proofs.Extras.{Numbered, ExtrasNumbered};
@@ -83,7 +83,21 @@ pub extern "C" fn axp_repair(blocks: u32, flags: u32, image: &[u8], out: &mut [u
 pub extern "C" fn axp_trace(blocks: u32, flags: u32, image: &[u8], out: &mut [u8]) -> AxpResult
     ensures { λ r. ⌜ Traced blocks flags (now (image .entry)) (now (out .entry)) (c-result r) (now (out .exit)) ⌝ }
 {
-    for_c(repair::trace(blocks, flags, image, out))
+    for_c(trace::trace(blocks, flags, image, out))
+}
+
+// Tracer with a ceiling.
+#[no_mangle]
+pub extern "C" fn axp_trace_within(
+    blocks: u32,
+    flags: u32,
+    ceiling: u32,
+    image: &[u8],
+    out: &mut [u8],
+) -> AxpResult
+    ensures { λ r. ⌜ TracedWithin blocks flags ceiling (now (image .entry)) (now (out .entry)) (c-result r) (now (out .exit)) ⌝ }
+{
+    for_c(trace::trace_within(blocks, flags, ceiling, image, out))
 }
 
 // Repairer with flags by stretch. C's axp_span is code's Span.

@@ -18,7 +18,7 @@ detail-of r = r .detail
 
 -- `own` are the call's answers, `seven` is what 7 leaves, `size` the result's size, and `before` the output as it came.
 pub record Leaves (own : ℕ → Type 0) (seven : List ℕ → Type 0) (size : ℕ) (before : List ℕ) (r : Result) (after : List ℕ) : Type 0 where
-  pub answer : r .answer ≤ 9
+  pub answer : r .answer ≤ 12
   pub own-answer : own (r .answer)
   pub untouched : r .answer ≢ 0 → r .answer ≢ 7 → after ≡ before
   pub at-seven : r .answer ≡ 7 → seven after
@@ -33,7 +33,7 @@ module _ (own : ℕ → Type 0) (seven : List ℕ → Type 0) (size : ℕ) (befo
   abbrev pub Refusal : Check → Type 0
   Refusal c = Leaves own seven size before (plain (c .number) (c .detail)) before
 
-  pub refusal : (k d : ℕ) → k ≤ 9 → k ≢ 7 → own k → (k ≢ 4 → d ≡ 0) → Leaves own seven size before (plain k d) before
+  pub refusal : (k d : ℕ) → k ≤ 12 → k ≢ 7 → own k → (k ≢ 4 → d ≡ 0) → Leaves own seven size before (plain k d) before
   refusal k d l u o z = record {
     answer = omega arith;
     own-answer = o;
@@ -55,7 +55,7 @@ module _ (own : ℕ → Type 0) (seven : List ℕ → Type 0) (size : ℕ) (befo
       (sizes n wanted (length image) result output a b c) (refusal 4 _ (omega arith) (omega arith) d (λ e. absurd (e refl)), tt)
 
   -- An answer past the checks: 0 or 7.
-  past : (r : Result) (after : List ℕ) (k : ℕ) → k ≤ 9 → (k ≢ 0 → k ≢ 7 → ⊥) → r .answer ≡ k → r .detail ≡ 0 → own k → (k ≡ 7 → seven after) →
+  past : (r : Result) (after : List ℕ) (k : ℕ) → k ≤ 12 → (k ≢ 0 → k ≢ 7 → ⊥) → r .answer ≡ k → r .detail ≡ 0 → own k → (k ≡ 7 → seven after) →
       Stays size before after → Leaves own seven size before r after
   past r after k l ends e d o left s = record {
     answer = omega arith;

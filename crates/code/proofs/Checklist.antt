@@ -7,13 +7,14 @@ use lib.ListN.{length, getD, drop, replicate, length-replicate, List·getD-appen
 use Rattle.code.specs.Record.{base, sum}
 use Rattle.code.specs.Flags.{flag-count}
 use Rattle.code.specs.Lost.{read-values}
-use Rattle.code.specs.Reach.{look-up, reach-code, flags-code, none}
+use Rattle.code.specs.Reach.{look-up, reach-code, flags-code, none, cautious, within}
 use Rattle.code.specs.Numbers.{Passed, reach-check}
 use Rattle.code.specs.Calls.{Result, changed-in, changed-cells, changed-mask, changed-extra, early-checks}
 use Rattle.code.specs.Examples.{ones, a, rest-of-128, answer-0}
 use Rattle.code.specs.Supply.{Mending, repair, trace, mend, Right}
-use Rattle.code.specs.Checklist.{Program, Meets, Rejected}
-use Rattle.code.proofs.Examples.{flags-of, passed, repair-found, in-a, trace-found, good-128}
+use Rattle.code.specs.Checklist.{Program, Taken, Meets, Rejected}
+use Rattle.code.proofs.Ceilings.{ceilings}
+use Rattle.code.proofs.Examples.{flags-of, passed, repair-found, good-128}
 use Rattle.code.proofs.Numbers.{passed-both}
 use Rattle.code.proofs.Spots.{spot, length-ones, ones-at}
 use Rattle.code.proofs.Supply.{point-1, met-none, point-3}
@@ -36,10 +37,20 @@ room : 414 ≤ length before
 unfolding before
 room = omega (arith, length-replicate {A = ℕ} 414 0)
 
-right : (way : Mending) → Right (mend way 1 2 image before) result after
-unfolding image before after every spot flags-code flag-count sum reach-code look-up changed-in changed-cells changed-mask changed-extra in-a
-right repair = repair-found 2 rest-of-128 (a 0 1 ∷ rest-of-128) result tt tt good-128 tt refl before room
-right trace = trace-found 2 3 rest-of-128 (a 0 1 ∷ rest-of-128) result tt tt tt good-128 tt refl before room
+-- Repair finds it, so tracing does, with every ceiling.
+repaired : Right (mend repair 1 2 image before) result after
+unfolding image before after every spot flags-code flag-count sum reach-code look-up changed-in changed-cells changed-mask changed-extra
+repaired = repair-found 2 rest-of-128 (a 0 1 ∷ rest-of-128) result tt tt good-128 tt refl before room
+
+at-ceiling : (ceiling : ℕ) → ceiling ≤ 2 → Right (mend (trace (within ceiling)) 1 2 image before) result after
+at-ceiling ceiling l =
+    let c = ceilings 1 2 image before in
+    c .higher 0 ceiling (omega arith) l result after (c .at-0 result after .1 repaired) refl
+
+right : (way : Mending) → Taken way → Right (mend way 1 2 image before) result after
+right repair l = repaired
+right (trace cautious) l = ceilings 1 2 image before .at-1 result after .0 (at-ceiling 1 (omega arith))
+right (trace (within ceiling)) l = at-ceiling ceiling l
 
 -- Its numbers 1 to 5 do not apply.
 fit : Passed (early-checks read-values (base 1) 1 2 image (length before))
@@ -60,10 +71,10 @@ unfolding after spot
 in-after = List·getD-append (ones (a 0 1 ∷ rest-of-128)) (drop 414 before) 0 (a 0 1) (omega (arith, length-ones (a 0 1 ∷ rest-of-128)))
     ∙ ones-at (a 0 1 ∷ rest-of-128) (a 0 1) (omega arith)
 
-pub rejected : (way : Mending) (p : Program) → Meets way p → Rejected p
-rejected way p meets =
+pub rejected : (way : Mending) → Taken way → (p : Program) → Meets way p → Rejected p
+rejected way l p meets =
     let met = meets 1 2 image before in
-    let same = point-1 (mend way 1 2 image before) _ _ (right way) .fixed _ _ met in
+    let same = point-1 (mend way 1 2 image before) _ _ (right way l) .fixed _ _ met in
     let answer = ap (λ (r : Result). r .answer) (same .0) in
     let cell = ap (λ (bytes : List ℕ). getD bytes (a 0 1) 0) (same .1) ∙ in-after in
     record {

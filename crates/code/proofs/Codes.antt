@@ -9,7 +9,8 @@ use lib.Dec.{eqb, leb}
 use borrow.Author.Tests.{eqb-true, leb-false}
 use Rattle.code.specs.Record.{A, B, closed-tail, Shape}
 use Rattle.code.specs.Flags.{TrackFlags, flag-count, Within, any}
-use Rattle.code.specs.Reach.{Row, rows, pick, look-up, reach-code, flags-code, most-in, most}
+use Rattle.code.specs.Reach.{Row, rows, pick, look-up, reach-code, flags-code, code-reach, table-reach}
+use Rattle.code.specs.declared.Reach.{Reach}
 use Rattle.code.proofs.Patterns.{in-each, none-flagged}
 
 -- ## The table's rows
@@ -34,19 +35,19 @@ looked-up g (r ∷ rs) a b n = go (looked-up g rs a b) (eqb (r .a) a) (eqb (r .b
     go rest true false e d n = omega (arith, rest n)
     go rest false q e d n = omega (arith, rest n)
 
--- Beside a and b flagged tracks, any two choices of extras that a code allows stay within the limit.
-pub record Room (code a b : ℕ) : Type 0 where
-  pub in-a : a + 2 * most-in code A ≤ 3
-  pub in-b : b + 2 * most-in code B ≤ 3
-  pub in-all : a + b + 2 * most code ≤ 4
+-- Beside a and b flagged tracks, any two choices of extras that a reach allows stay within the limit.
+pub record Room (w : Reach) (a b : ℕ) : Type 0 where
+  pub in-a : a + 2 * w .a ≤ 3
+  pub in-b : b + 2 * w .b ≤ 3
+  pub in-all : a + b + 2 * w .all ≤ 4
 
 -- The table's codes leave that room.
-pub code-room : (a b : ℕ) → (reach-code a b ≡ 0 → ⊥) → Room (reach-code a b) a b
+pub code-room : (a b : ℕ) → (reach-code a b ≡ 0 → ⊥) → Room (code-reach (reach-code a b)) a b
 unfolding reach-code
 code-room a b n = record {
-  in-a = looked-up (λ a b c. a + 2 * most-in c A) rows a b n;
-  in-b = looked-up (λ a b c. b + 2 * most-in c B) rows a b n;
-  in-all = looked-up (λ a b c. a + b + 2 * most c) rows a b n;
+  in-a = looked-up (λ a b c. a + 2 * code-reach c .a) rows a b n;
+  in-b = looked-up (λ a b c. b + 2 * code-reach c .b) rows a b n;
+  in-all = looked-up (λ a b c. a + b + 2 * code-reach c .all) rows a b n;
 }
 
 -- Codes are 0 to 5.
@@ -103,7 +104,11 @@ pub code-past : (sh : Shape) (f : TrackFlags) → flags-code sh f ≡ 0 → With
 unfolding flags-code
 code-past sh f e w = coded _ _ (w .in-set A) (w .in-set B) (w .in-all) e
 
--- The room that the flags' code leaves.
-pub flags-room : (sh : Shape) (f : TrackFlags) → (flags-code sh f ≡ 0 → ⊥) → Room (flags-code sh f) (flag-count sh f A) (flag-count sh f B)
+pub flags-small : (sh : Shape) (f : TrackFlags) → flags-code sh f ≤ 5
 unfolding flags-code
-flags-room sh f = code-room (flag-count sh f A) (flag-count sh f B)
+flags-small sh f = code-small (flag-count sh f A) (flag-count sh f B)
+
+-- The room that the table leaves beside the flags.
+pub table-room : (sh : Shape) (f : TrackFlags) → (flags-code sh f ≡ 0 → ⊥) → Room (table-reach sh f) (flag-count sh f A) (flag-count sh f B)
+unfolding flags-code
+table-room sh f = code-room (flag-count sh f A) (flag-count sh f B)

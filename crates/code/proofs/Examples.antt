@@ -1,5 +1,5 @@
 -- The examples of document 01 that are marked P hold.
-use mathlib.Core.Path.{_≡_, refl, sym, _∙_}
+use mathlib.Core.Path.{_≡_, refl, sym, ap, _∙_}
 use mathlib.Core.Logic.{inl, inr}
 use mathlib.Core.Bool.{Bool, true, false, _&&_, _||_, not, true≢false}
 use mathlib.Core.List.{List, [], _∷_, _++_}
@@ -14,12 +14,14 @@ use Rattle.code.specs.Image.{track-number, cells}
 use Rattle.code.specs.Payload.{digits, payload-index, payload-byte, Carries}
 use Rattle.code.specs.Flags.{TrackFlags, whole, word-flags, flag-count, AgreeOff, Within}
 use Rattle.code.specs.Lost.{bit-values, read-values}
-use Rattle.code.specs.Reach.{look-up, reach-code, flags-code, Extra, none, extra, is, most-in, most, Choice, Allowed, with-extras, InReach}
-use Rattle.code.specs.Numbers.{Check, First, Passed, first-bad}
-use Rattle.code.specs.Calls.{Result, plain, mended, Found, NotFound, changed-in, changed-cells, changed-mask, changed-extra, repair-checks, Refused}
-use Rattle.code.specs.Contracts.{call-flags}
+use Rattle.code.specs.Reach.{look-up, reach-code, flags-code, code-reach, Extra, none, extra, is, Choice, Allowed, with-extras, InReach, cautious, within, traced-reach}
+use Rattle.code.specs.Numbers.{Check, ceiling-check, reach-check, First, Passed, first-bad}
+use Rattle.code.specs.Calls.{Result, plain, mended, Found, NotFound, changed-in, changed-cells, changed-mask, changed-extra, early-checks, repair-checks, Refused}
+use Rattle.code.specs.Contracts.{call-flags, Traced, TracedWithin}
 use Rattle.code.specs.Supply.{AsBefore}
 use Rattle.code.specs.Examples.{ones, good, encode, repair, trace, Holds, Hold, examples, rest-of-128, answer-0, a, b}
+use Rattle.code.specs.declared.Reach.{Reach}
+use Rattle.code.proofs.Ceilings.{ceilings}
 use Rattle.code.proofs.Codes.{code-far, closed-within}
 use Rattle.code.proofs.Digits.{digits-same}
 use Rattle.code.proofs.Patterns.{neither}
@@ -28,7 +30,7 @@ use Rattle.code.proofs.Unique.{unique-tracks}
 use Rattle.code.proofs.Changed.{mended-same, changed-extra-same}
 use Rattle.code.proofs.Linear.{same-sym, good-same, good-blank}
 use Rattle.code.proofs.Lost.{count-widened, bit-known, as-before}
-use Rattle.code.proofs.Numbers.{first-bad-none, first-passed}
+use Rattle.code.proofs.Numbers.{answer-of, first-bad-none, first-passed, first-without}
 use Rattle.code.proofs.Spots.{spot, spots, length-ones, ones-bit, ones-cells, image-cells, ones-stay}
 use Rattle.code.proofs.Table.{and-left, and-right}
 use Rattle.code.proofs.Tests.{every, every-at, both-sets, both-at, tested-good}
@@ -116,18 +118,18 @@ unfoldable pub in-a : ℕ → Choice
 in-a u A = extra u
 in-a u B = none
 
-abbrev allowed-test : ℕ → ℕ → TrackFlags → Bool
-allowed-test code u f = (ltb 0 (most-in code A) && ltb 0 (most code)) && (ltb u 9 && not (f A u))
+abbrev allowed-test : Reach → ℕ → TrackFlags → Bool
+allowed-test w u f = (ltb 0 (w .a) && ltb 0 (w .all)) && (ltb u 9 && not (f A u))
 
 not-true : (b : Bool) → T (not b) → b ≡ false
 not-true true t = absurd t
 not-true false t = refl
 
-tested-allowed : (code u : ℕ) (f : TrackFlags) → T (allowed-test code u f) → Allowed (base 1) code f (in-a u)
+tested-allowed : (w : Reach) (u : ℕ) (f : TrackFlags) → T (allowed-test w u f) → Allowed (base 1) w f (in-a u)
 unfolding in-a
-tested-allowed code u f t = record {
-  in-set = elim [ A ↦ ltb→lt 0 (most-in code A) (and-left (ltb 0 (most-in code A)) _ some) | B ↦ omega arith ];
-  in-all = ltb→lt 0 (most code) (and-right (ltb 0 (most-in code A)) _ some);
+tested-allowed w u f t = record {
+  in-set = elim [ A ↦ ltb→lt 0 (w .a) (and-left (ltb 0 (w .a)) _ some) | B ↦ omega arith ];
+  in-all = ltb→lt 0 (w .all) (and-right (ltb 0 (w .a)) _ some);
   track = elim [
     | A ↦ λ v e. let i : u ≡ v = cc in omega (arith, ltb→lt u 9 (and-left (ltb u 9) _ free))
     | B ↦ λ v e. let z : _≡_ {A = ℕ} 0 1 = cc in absurd (omega arith)
@@ -138,24 +140,31 @@ tested-allowed code u f t = record {
   ];
 }
   where
-    some : T (ltb 0 (most-in code A) && ltb 0 (most code))
-    some = and-left (ltb 0 (most-in code A) && ltb 0 (most code)) _ t
+    some : T (ltb 0 (w .a) && ltb 0 (w .all))
+    some = and-left (ltb 0 (w .a) && ltb 0 (w .all)) _ t
 
     free : T (ltb u 9 && not (f A u))
-    free = and-right (ltb 0 (most-in code A) && ltb 0 (most code)) _ t
+    free = and-right (ltb 0 (w .a) && ltb 0 (w .all)) _ t
 
 pub trace-found : (flags u : ℕ) (ins outs : List ℕ) (r : Result) → T (ltb flags (2 ^ 18)) → T (ltb 0 (flags-code (base 1) (flags-of flags))) →
-    T (allowed-test (flags-code (base 1) (flags-of flags)) u (flags-of flags)) → Good (base 1) (spots outs) →
+    T (allowed-test (traced-reach cautious (base 1) (flags-of flags)) u (flags-of flags)) → Good (base 1) (spots outs) →
     T (agree-test (with-extras (flags-of flags) (in-a u)) (spots ins) (spots outs)) →
     mended (base 1) (spots ins) (spots outs) (λ s. changed-extra (base 1) (flags-of flags) (spots ins) (spots outs) s (tracks (base 1) s)) ≡ r →
     Holds (trace flags ins r outs)
-trace-found flags u ins outs r few code allowed g agree e before h = unlost ins before .trace flags r (output outs before) .1
-    (first-passed (checks-of bit-values flags (ones ins) before) (Refused r before (output outs before)) _ (passed bit-values (omega arith) flags ins before few code h)
-    (inl (found (InReach (base 1) (flags-code (base 1) (flags-of flags)) (flags-of flags) (cells (base 1) (ones ins))) _ (λ s. changed-extra (base 1) (flags-of flags) (spots ins) (spots outs) s (tracks (base 1) s)) ins outs before r h g
-    (record { choice = in-a u; allowed = tested-allowed _ u (flags-of flags) allowed; agree = tested-agree _ ins outs before agree })
-    (λ s. changed-extra-same (base 1) (spots ins) _ (spots outs) _ (same-sym (image-cells ins)) (same-sym (ones-cells outs (drop 414 before)))
-    (flags-of flags) (flags-of flags) s (λ t l. refl) (tracks (base 1) s) (omega arith))
-    e)))
+trace-found flags u ins outs r few code allowed g agree e before h = (
+  traced,
+  let c = ceilings 1 flags (ones ins) before in
+      c .higher 1 2 (omega arith) (omega arith) r (output outs before) (c .at-1 r (output outs before) .1 traced) (sym (ap answer-of e)),
+)
+  where
+    traced : Traced 1 flags (ones ins) before r (output outs before)
+    traced = unlost ins before .trace cautious flags r (output outs before) .1
+        (first-passed (checks-of bit-values flags (ones ins) before) (Refused r before (output outs before)) _ (passed bit-values (omega arith) flags ins before few code h)
+        (inl (found (InReach (base 1) (traced-reach cautious (base 1) (flags-of flags)) (flags-of flags) (cells (base 1) (ones ins))) _ (λ s. changed-extra (base 1) (flags-of flags) (spots ins) (spots outs) s (tracks (base 1) s)) ins outs before r h g
+        (record { choice = in-a u; allowed = tested-allowed _ u (flags-of flags) allowed; agree = tested-agree _ ins outs before agree })
+        (λ s. changed-extra-same (base 1) (spots ins) _ (spots outs) _ (same-sym (image-cells ins)) (same-sym (ones-cells outs (drop 414 before)))
+        (flags-of flags) (flags-of flags) s (λ t l. refl) (tracks (base 1) s) (omega arith))
+        e)))
 
 -- A call that finds none: no good record is near.
 not-found : (near : Cells → Type 0) (ins before : List ℕ) → 414 ≤ length before → ((y : Cells) → Good (base 1) y → near y → ⊥) →
@@ -196,7 +205,7 @@ two-tracks : (flag-count (base 1) (flags-of 6) A ≡ 2) × (flag-count (base 1) 
 unfolding flag-count sum
 two-tracks = (refl, refl)
 
-two-within : (e : Choice) → Allowed (base 1) 5 (flags-of 0) e → Within (base 1) (with-extras (flags-of 6) e)
+two-within : (e : Choice) → Allowed (base 1) (code-reach 5) (flags-of 0) e → Within (base 1) (with-extras (flags-of 6) e)
 two-within e l =
     let in-a = count-extras (base 1) (flags-of 6) e A in
     let in-b = count-extras (base 1) (flags-of 6) e B in
@@ -205,7 +214,7 @@ two-within e l =
     (omega (arith, two-tracks .1, l .in-set B))
     (omega (arith, two-tracks .0, two-tracks .1, l .in-all))
 
-no-trace : (y : Cells) → Good (base 1) y → InReach (base 1) (flags-code (base 1) (flags-of 0)) (flags-of 0) (cells (base 1) (ones two-ones)) y → ⊥
+no-trace : (y : Cells) → Good (base 1) y → InReach (base 1) (traced-reach (within 2) (base 1) (flags-of 0)) (flags-of 0) (cells (base 1) (ones two-ones)) y → ⊥
 unfolding two-ones every spot flags-code flag-count sum reach-code look-up
 no-trace y g r = extra-both (r .choice A) (covered 1 tt refl _ refl) (covered 2 tt refl _ refl)
   where
@@ -272,6 +281,11 @@ module _ (image before : List ℕ) (l : length image ≡ 414) (cells-right : fir
     inr (λ d. d l, inr (λ r. omega arith, inr (λ r. omega arith, inr (λ r. omega arith, inl (code-15, record { result = refl; output = refl }))))),
   )
 
+  -- A ceiling of 2 refuses nothing.
+  below-2 : (word : ℕ) (r : Result) (rest : Type 0) → First (checks word) (Refused r before before) rest →
+      First (early-checks read-values (base 1) 1 word image (length before) ++ (ceiling-check 2 ∷ reach-check (base 1) (call-flags 1 word image) ∷ [])) (Refused r before before) rest
+  below-2 word r rest = first-without (early-checks read-values (base 1) 1 word image (length before)) (ceiling-check 2) (reach-check (base 1) (call-flags 1 word image) ∷ []) (Refused r before before) rest (λ l. omega arith) .1
+
   refused-18 : (rest : Type 0) → First (checks (2 ^ 18)) (Refused (plain 5 0) before before) rest
   refused-18 rest = inr (
     λ h. omega arith,
@@ -298,9 +312,17 @@ encode-128 before h = inr (
 
 trace-none : Holds (trace 0 (a 0 1 ∷ a 0 2 ∷ []) (plain 7 0) (a 0 1 ∷ a 0 2 ∷ []))
 unfolding two-ones flags-code flag-count sum reach-code look-up
-trace-none before h = unlost two-ones before .trace 0 (plain 7 0) (output two-ones before) .1
-    (first-passed (checks-of bit-values 0 (ones two-ones) before) (Refused (plain 7 0) before (output two-ones before)) _ (passed bit-values (omega arith) 0 two-ones before tt tt h)
-    (inr (not-found (InReach (base 1) (flags-code (base 1) (flags-of 0)) (flags-of 0) (cells (base 1) (ones two-ones))) two-ones before h no-trace)))
+trace-none before h = (
+  let c = ceilings 1 0 (ones two-ones) before in
+      c .at-1 (plain 7 0) (output two-ones before) .0 (c .lower 1 2 (omega arith) (omega arith) (plain 7 0) (output two-ones before) at-2 refl),
+  at-2,
+)
+  where
+    at-2 : TracedWithin 1 0 2 (ones two-ones) before (plain 7 0) (output two-ones before)
+    at-2 = unlost two-ones before .trace (within 2) 0 (plain 7 0) (output two-ones before) .1
+        (first-without (early-checks bit-values (base 1) 1 0 (ones two-ones) (length before)) (ceiling-check 2) (reach-check (base 1) (flags-of 0) ∷ []) (Refused (plain 7 0) before (output two-ones before)) _ (λ l. omega arith) .1
+        (first-passed (checks-of bit-values 0 (ones two-ones) before) (Refused (plain 7 0) before (output two-ones before)) _ (passed bit-values (omega arith) 0 two-ones before tt tt h)
+        (inr (not-found (InReach (base 1) (traced-reach (within 2) (base 1) (flags-of 0)) (flags-of 0) (cells (base 1) (ones two-ones))) two-ones before h no-trace))))
 
 -- The one table.
 pub examples-hold : Hold examples
@@ -324,9 +346,15 @@ examples-hold = (
                 (
                   repair-found 526 (a 3 1 ∷ b 20 0 ∷ []) [] (answer-0 514 2 none none) tt tt zero-good tt refl,
                   (
-                    λ image before l bits h. (refused-15 image before l bits h _, refused-15 image before l bits h _),
+                    λ image before l bits h. (
+                      refused-15 image before l bits h _,
+                      (refused-15 image before l bits h _, below-2 image before l bits h 15 _ _ (refused-15 image before l bits h _)),
+                    ),
                     (
-                      λ image before l bits h. (refused-18 image before l bits h _, refused-18 image before l bits h _),
+                      λ image before l bits h. (
+                        refused-18 image before l bits h _,
+                        (refused-18 image before l bits h _, below-2 image before l bits h (2 ^ 18) _ _ (refused-18 image before l bits h _)),
+                      ),
                       tt,
                     ),
                   ),

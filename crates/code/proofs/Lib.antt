@@ -8,6 +8,7 @@ pub mod Unique
 pub mod Codes
 pub mod Same
 pub mod Reached
+pub mod Reaches
 pub mod Mono
 pub mod OneTrack
 pub mod Determinant
@@ -45,6 +46,7 @@ pub mod Mending
 pub mod Stretches
 pub mod WholeTracks
 pub mod Supply
+pub mod Ceilings
 pub mod NoBlocks
 pub mod Tests
 pub mod Spots

@@ -13,9 +13,9 @@ use Rattle.code.specs.Image.{image-size, cells}
 use Rattle.code.specs.Payload.{payload-size}
 use Rattle.code.specs.Flags.{TrackFlags, whole, word-flags, bit, flag-count}
 use Rattle.code.specs.Lost.{bit-values, read-values, is-lost, with-lost}
-use Rattle.code.specs.Reach.{flags-code}
+use Rattle.code.specs.Reach.{Tracing, traced-reach}
 use Rattle.code.specs.Numbers.{Check, first-bad, size-checks, flag-check, reach-check}
-use Rattle.code.specs.Calls.{Answered, ReadOrNot, Repairs, Traces}
+use Rattle.code.specs.Calls.{Answered, ReadOrNot, ceiling-checks, Repairs, Traces}
 use Rattle.code.specs.Contracts.{call-flags}
 use Rattle.code.specs.Supply.{AsBefore, NoneLost}
 use Rattle.code.proofs.Any.{any-none}
@@ -76,6 +76,10 @@ module _ (image : List ℕ) (h : NoneLost image) where
     abbrev checks : ℕ → ℕ → TrackFlags → List {1} Check
     checks word k f = (cell-checks (image-size (base n)) k ++ (flag-check (base n) word ∷ [])) ++ (reach-check (base n) f ∷ [])
 
+    abbrev traced-checks : Tracing → ℕ → ℕ → TrackFlags → List {1} Check
+    traced-checks way word k f =
+        ((cell-checks (image-size (base n)) k ++ (flag-check (base n) word ∷ [])) ++ ceiling-checks way) ++ (reach-check (base n) f ∷ [])
+
     -- Number 4 has the same condition and the same detail, and the same tracks are flagged.
     same : (word : ℕ) (P : ℕ → TrackFlags → Type 0) → P (first-bad read-values image) (call-flags n word image) ↔ P (first-bad bit-values image) (word-flags (base n) word)
     same word P = (subst₂ P (same-bad image h) (not-widened (base n) _), subst₂ P (sym (same-bad image h)) (sym (not-widened (base n) _)))
@@ -84,5 +88,5 @@ module _ (image : List ℕ) (h : NoneLost image) where
     as-before = record {
       read = λ r after. same 0 (λ k f. Answered (cell-checks (payload-size (base n) n) k) (ReadOrNot (base n) n image before) before r after);
       repair = λ word r after. same word (λ k f. Answered (checks word k f) (Repairs (base n) (whole f) image before) before r after);
-      trace = λ word r after. same word (λ k f. Answered (checks word k f) (Traces (base n) (flags-code (base n) f) f image before) before r after);
+      trace = λ way word r after. same word (λ k f. Answered (traced-checks way word k f) (Traces (base n) (traced-reach way (base n) f) f image before) before r after);
     }

@@ -32,9 +32,9 @@ zeros-good : (bytes : List ℕ) → Zeros 270 bytes → Good (base 0) (cells (ba
 zeros-good bytes z = only-zero (base 0) refl _ .1 (record { cell = λ s t m l b. z _ (cell-lt (base 0) s t m l b) })
 
 -- A record that is the same as one that a call may hand out is one, too.
-near-same : (way : Mending) (sh : Shape) (code : ℕ) (f : TrackFlags) (image : List ℕ) (x y : Cells) → Same sh x y → near-by way sh code f image x → near-by way sh code f image y
-near-same repair sh code f image x y same n = record { cell = λ s t m l b e. n .cell s t m l b e ∙ same .cell s t m l b }
-near-same trace sh code f image x y same n = record {
+near-same : (way : Mending) (sh : Shape) (f : TrackFlags) (image : List ℕ) (x y : Cells) → Same sh x y → near-by way sh f image x → near-by way sh f image y
+near-same repair sh f image x y same n = record { cell = λ s t m l b e. n .cell s t m l b e ∙ same .cell s t m l b }
+near-same (trace way) sh f image x y same n = record {
   choice = n .choice;
   allowed = n .allowed;
   agree = record { cell = λ s t m l b e. n .agree .cell s t m l b e ∙ same .cell s t m l b };
@@ -58,7 +58,7 @@ no-blocks = record {
   mended = λ way flags image before r after c z. zeros after (point-3 way 0 flags image before r after c (met-none r z) .held z .0);
   found = λ way flags image before r after c u few.
       let p = point-3 way 0 flags image before r after c u in (
-        λ z. let h = p .held z in near-same way (base 0) _ _ image (cells (base 0) after) blank (only-zero (base 0) refl _ .0 (h .0)) (h .1),
+        λ z. let h = p .held z in near-same way (base 0) _ image (cells (base 0) after) blank (only-zero (base 0) refl _ .0 (h .0)) (h .1),
         λ n. p .found few blank (good-blank (base 0)) n .0,
       );
   viewed = λ image g part v whole inside.

@@ -90,6 +90,18 @@ first-map [] right rest rest′ h f = h f
 first-map (c ∷ cs) right rest rest′ h (inl a) = inl a
 first-map (c ∷ cs) right rest rest′ h (inr a) = inr (a .0, first-map cs right rest rest′ h (a .1))
 
+-- A check that does not apply can be left out.
+pub first-without : (cs : List {1} Check) (c : Check) (ds : List {1} Check) (right : Check → Type 0) (rest : Type 0) → ¬ c .applies →
+    First (cs ++ (c ∷ ds)) right rest ↔ First (cs ++ ds) right rest
+first-without cs c ds right rest off = (
+  λ f. first-join cs ds right rest (first-map cs right _ _ drop (first-append cs (c ∷ ds) right rest f)),
+  λ f. first-join cs (c ∷ ds) right rest (first-map cs right _ _ (λ a. inr (off, a)) (first-append cs ds right rest f)),
+)
+  where
+    drop : First (c ∷ ds) right rest → First ds right rest
+    drop (inl a) = absurd (off (a .0))
+    drop (inr a) = a .1
+
 -- Past the first list, the second says what is right.
 pub first-after : (cs ds : List {1} Check) (right : Check → Type 0) (rest : Type 0) → Passed cs → First ds right rest → First (cs ++ ds) right rest
 first-after [] ds right rest p f = f

@@ -9,6 +9,7 @@ use Rattle.code.specs.Record.{TrackSet, Shape, tracks, Cells, Good, Same
 use Rattle.code.specs.Image.{image-size, cells}
 use Rattle.code.specs.Flags.{TrackFlags, CellFlags, AgreeOff}
 use Rattle.code.specs.Reach.{Extra, none}
+use Rattle.code.specs.declared.Reach.{Reach}
 use Rattle.code.specs.Calls.{Result, plain, mended, NotFound, Mended, RepairNear, Repairs, TraceNear, trace-named, Traces}
 use Rattle.code.proofs.Changed.{changed-extra-same, mended-same}
 use Rattle.code.proofs.Front.{front-at, front-same, front-stays, stays-all}
@@ -50,8 +51,8 @@ module _ (sh : Shape) (image out part : List ℕ) (room : image-size sh ≤ leng
   pub repair-all : (flag : CellFlags) (r : Result) → Repairs sh flag image (take (image-size sh) out) r part → Repairs sh flag image out r all
   repair-all flag = mended-all (RepairNear sh flag image) (λ _ _. none) (agree-all _ _) (λ s. refl)
 
-  pub trace-all : (code : ℕ) (f : TrackFlags) (r : Result) → Traces sh code f image (take (image-size sh) out) r part → Traces sh code f image out r all
-  trace-all code f = mended-all (TraceNear sh code f image) (trace-named sh f image)
+  pub trace-all : (w : Reach) (f : TrackFlags) (r : Result) → Traces sh w f image (take (image-size sh) out) r part → Traces sh w f image out r all
+  trace-all w f = mended-all (TraceNear sh w f image) (trace-named sh f image)
       (λ i. record { choice = i .choice; allowed = i .allowed; agree = agree-all _ _ (i .agree) })
       (λ s. changed-extra-same sh _ _ _ _ (own-cells sh image) part-cells f f s (λ t l. refl) (tracks sh s) (omega arith))
 

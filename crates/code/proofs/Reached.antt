@@ -9,6 +9,7 @@ use borrow.Author.Tests.{eq-eqb, ne-eqb}
 use Rattle.code.specs.Record.{TrackSet, A, B, closed-tail, Shape, tracks, Cells, sum, Good, Same}
 use Rattle.code.specs.Flags.{TrackFlags, whole, bit, flag-count, AgreeOff, Within}
 use Rattle.code.specs.Reach.{Extra, none, extra, size, is, Choice, with-extras, InReach, AtMostOne}
+use Rattle.code.specs.declared.Reach.{Reach}
 use Rattle.code.proofs.Sums.{sum-le, sum-add, sum-zero, sum-one}
 use Rattle.code.proofs.Patterns.{neither}
 use Rattle.code.proofs.Unique.{unique-tracks}
@@ -28,11 +29,11 @@ pub repaired-unique : (sh : Shape) (f : TrackFlags) (z : Cells) → Within sh f 
 repaired-unique sh f z w x y gx gy p q = unique-tracks sh x y gx gy f w (agree-through sh f f f z x y p q (λ s t e. (e, e)))
 
 -- Two records that are in reach by choices which together with the flags stay within the limit are the same.
-pub reached-within : (sh : Shape) (code : ℕ) (f : TrackFlags) (z x y : Cells) → Good sh x → Good sh y →
-    (rx : InReach sh code f z x) (ry : InReach sh code f z y) →
+pub reached-within : (sh : Shape) (w : Reach) (f : TrackFlags) (z x y : Cells) → Good sh x → Good sh y →
+    (rx : InReach sh w f z x) (ry : InReach sh w f z y) →
     Within sh (with-extras (with-extras f (rx .choice)) (ry .choice)) → Same sh x y
-reached-within sh code f z x y gx gy rx ry w =
-    unique-tracks sh x y gx gy _ w (agree-through sh _ _ _ z x y (rx .agree) (ry .agree) (λ s t. split (f s t) (is (rx .choice s) t) (is (ry .choice s) t)))
+reached-within sh w f z x y gx gy rx ry few =
+    unique-tracks sh x y gx gy _ few (agree-through sh _ _ _ z x y (rx .agree) (ry .agree) (λ s t. split (f s t) (is (rx .choice s) t) (is (ry .choice s) t)))
   where
     split : (a b c : Bool) → (a || b) || c ≡ false → (a || b ≡ false) × (a || c ≡ false)
     split false b c e = neither b c e
@@ -68,11 +69,11 @@ count-extras sh f e s = omega (
   one-extra (tracks sh s) (e s),
 )
 
--- Where a code leaves room for two choices, at most one good record is in reach.
-pub reached-unique : (sh : Shape) (code : ℕ) (f : TrackFlags) (z : Cells) → sh .closing ≡ closed-tail → Room code (flag-count sh f A) (flag-count sh f B) →
-    AtMostOne sh (InReach sh code f z)
-reached-unique sh code f z c room x y gx gy rx ry =
-    reached-within sh code f z x y gx gy rx ry
+-- Where a reach leaves room for two choices, at most one good record is in it.
+pub reached-unique : (sh : Shape) (w : Reach) (f : TrackFlags) (z : Cells) → sh .closing ≡ closed-tail → Room w (flag-count sh f A) (flag-count sh f B) →
+    AtMostOne sh (InReach sh w f z)
+reached-unique sh w f z c room x y gx gy rx ry =
+    reached-within sh w f z x y gx gy rx ry
     (closed-within sh both c
     (omega (arith, counts A, rx .allowed .in-set A, ry .allowed .in-set A))
     (omega (arith, counts B, rx .allowed .in-set B, ry .allowed .in-set B))

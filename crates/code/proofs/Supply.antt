@@ -2,7 +2,7 @@
 -- each other is in proofs/Undoing.
 use mathlib.Core.Path.{_≡_, refl, sym, ap}
 use mathlib.Core.Logic.{inl, inr, ⊎-elim, _≢_, _↔_}
-use mathlib.Core.List.{List, [], _∷_}
+use mathlib.Core.List.{List, [], _∷_, _++_}
 use Prim.Native.Nat.{ℕ, _<_, _≤_}
 use native.Mathlib.Omega.{arith}
 use lib.ListN.{length}
@@ -11,10 +11,10 @@ use Rattle.code.specs.Image.{image-size}
 use Rattle.code.specs.Flags.{TrackFlags}
 use Rattle.code.specs.Payload.{payload-size}
 use Rattle.code.specs.Lost.{bit-values, read-values}
-use Rattle.code.specs.Reach.{flags-code, none}
+use Rattle.code.specs.Reach.{none, cautious, within}
 use Rattle.code.specs.Spans.{Table, span-flags}
 use Rattle.code.specs.Packed.{packed-size}
-use Rattle.code.specs.Numbers.{count-check, room-check, flag-check, reach-check, padding-check, table-check, window-check, input-checks, size-checks, image-checks}
+use Rattle.code.specs.Numbers.{Check, count-check, room-check, flag-check, reach-check, padding-check, table-check, window-check, input-checks, size-checks, image-checks}
 use Rattle.code.specs.Calls.{
   Result,
   plain,
@@ -24,7 +24,7 @@ use Rattle.code.specs.Calls.{
   read-checks,
   ReadOrNot,
   early-checks,
-  repair-checks,
+  ceiling-checks,
   RepairNear,
   Repairs,
   span-checks,
@@ -63,18 +63,37 @@ use Rattle.code.proofs.Answering.{Leaves, Refusal, refusal, sizes, imag
 use Rattle.code.proofs.Determined.{Equal, encode-determined, read-determined, pack-determined, unpack-determined}
 use Rattle.code.proofs.Extras.{ExtrasNumbered, plain-answers-numbered, read-numbered, values-numbered, unnamed-numbered}
 use Rattle.code.proofs.Mending.{names-by, Mends, mending-fixed, mending-demanded, mending-values}
-use Rattle.code.proofs.Numbers.{passed-exact, passed-both, answer-of, each-append, later, first-given}
+use Rattle.code.proofs.Numbers.{passed-exact, passed-both, answer-of, Each, Avoids, each-append, later, first-given}
 use Rattle.code.proofs.RoundTrip.{round-trip}
 use Rattle.code.proofs.Stretches.{spans-fixed, span-point-3, span-values}
 
 -- ## The contracts
 
--- Repair and tracing are both of the form of proofs/Mending.
+-- The checks of repair and tracing before that of the flags: tracing with a ceiling has one more.
+abbrev own-checks : Mending → List {1} Check
+own-checks repair = []
+own-checks (trace way) = ceiling-checks way
+
+abbrev mend-checks : Mending → ℕ → ℕ → List ℕ → List ℕ → List {1} Check
+mend-checks way n flags image before = early-checks read-values (base n) n flags image (length before) ++ own-checks way
+
+-- They are all of the form of proofs/Mending.
 mends : (way : Mending) (n flags : ℕ) (image before : List ℕ) (r : Result) (after : List ℕ) → Right (mend way n flags image before) r after →
     let f = call-flags n flags image in
-    Answered (repair-checks read-values (base n) n flags f image before) (Mends way (base n) (flags-code (base n) f) f image before) before r after
+    Answered (mend-checks way n flags image before ++ (reach-check (base n) f ∷ [])) (Mends way (base n) f image before) before r after
 mends repair n flags image before r after c = c
-mends trace n flags image before r after c = c
+mends (trace cautious) n flags image before r after c = c
+mends (trace (within ceiling)) n flags image before r after c = c
+
+-- Their numbers are 1 to 5 and 12.
+mend-avoids : (way : Mending) (n flags : ℕ) (image before : List ℕ) (k : ℕ) → Avoids k (early-checks read-values (base n) n flags image (length before)) → k ≢ 12 →
+    Avoids k (mend-checks way n flags image before)
+mend-avoids way n flags image before k early d = each-append (λ c. c .number ≢ k) (early-checks read-values (base n) n flags image (length before)) (own-checks way) early (own way)
+  where
+    own : (way : Mending) → Avoids k (own-checks way)
+    own repair = tt
+    own (trace cautious) = tt
+    own (trace (within ceiling)) = (λ e. d (sym e), tt)
 
 determined : (input : Input) (r other : Result) (after bytes : List ℕ) → Right input r after → Right input other bytes → Equal other r bytes after
 determined (encode n payload before) r other after bytes c d =
@@ -82,13 +101,28 @@ determined (encode n payload before) r other after bytes c d =
 determined (read n image before) r other after bytes c d =
     read-determined (base n) (read-checks read-values (base n) n image before) before other r bytes after n image d c
 determined (mend way n flags image before) r other after bytes c d =
-    mending-fixed way (base n) refl (call-flags n flags image) (early-checks read-values (base n) n flags image (length before)) image before r after
+    mending-fixed way (base n) refl (call-flags n flags image) (mend-checks way n flags image before) image before r after
     (mends way n flags image before r after c) other bytes (mends way n flags image before other bytes d)
 determined (mend-spans n table image before) r other after bytes c d = spans-fixed n table image before r other after bytes c d
 determined (pack n image before) r other after bytes c d = pack-determined n (pack-checks n image before) before other r bytes after image d c
 determined (unpack n packed before) r other after bytes c d = unpack-determined n (unpack-checks n packed before) before other r bytes after packed d c
 
 -- ## Point 1
+
+-- Every call that changes an image gives 0 to 7; that with a ceiling also 12.
+own-seven : (way : Mending) (n flags : ℕ) (image before : List ℕ) (k : ℕ) → k ≤ 7 → OwnAnswer (mend way n flags image before) k
+own-seven repair n flags image before k l = l
+own-seven (trace cautious) n flags image before k l = l
+own-seven (trace (within ceiling)) n flags image before k l = inl l
+
+-- What 12 leaves.
+own-refusals : (way : Mending) (n flags : ℕ) (image before : List ℕ) → let input = mend way n flags image before in
+    Each (Refusal (OwnAnswer input) (LeftBy7 input) (image-size (base n)) before) (own-checks way)
+own-refusals repair n flags image before = tt
+own-refusals (trace cautious) n flags image before = tt
+own-refusals (trace (within ceiling)) n flags image before =
+    let input = mend (trace (within ceiling)) n flags image before in
+    (refusal (OwnAnswer input) (LeftBy7 input) (image-size (base n)) before 12 0 (omega arith) (omega arith) (inr refl) (λ e. refl), tt)
 
 leaves : (input : Input) (r : Result) (after : List ℕ) → Right input r after →
     Leaves (OwnAnswer input) (LeftBy7 input) (result-size input) (output-before input) r after
@@ -108,12 +142,18 @@ leaves (mend way n flags image before) r after =
     let sh = base n in
     let f = call-flags n flags image in
     let input = mend way n flags image before in
+    let own = own-seven way n flags image before in
     let number : (k : ℕ) → k ≤ 6 → Leaves (OwnAnswer input) (LeftBy7 input) (image-size sh) before (plain k 0) before
-    = λ k l. refusal (OwnAnswer input) (LeftBy7 input) (image-size sh) before k 0 (omega arith) (omega arith) (omega arith) (λ e. refl) in
-    λ c. mend-leaves sh (OwnAnswer input) (repair-checks read-values sh n flags f image before) before r after (near-by way sh (flags-code sh f) f image) (names-by way sh f image) image (omega arith) (omega arith)
-    (each-append (Refusal (OwnAnswer input) (LeftBy7 input) (image-size sh) before) (image-checks read-values n (image-size sh) image (image-size sh) (length before)) (flag-check sh flags ∷ reach-check sh f ∷ [])
-    (images (OwnAnswer input) (LeftBy7 input) (image-size sh) before read-values n (image-size sh) image (image-size sh) (length before) (omega arith) (omega arith) (omega arith) (omega arith))
-    (number 5 (omega arith), (number 6 (omega arith), tt)))
+    = λ k l. refusal (OwnAnswer input) (LeftBy7 input) (image-size sh) before k 0 (omega arith) (omega arith) (own k (omega arith)) (λ e. refl) in
+    let refuses = Refusal (OwnAnswer input) (LeftBy7 input) (image-size sh) before in
+    λ c. mend-leaves sh (OwnAnswer input) (mend-checks way n flags image before ++ (reach-check sh f ∷ [])) before r after (near-by way sh f image) (names-by way sh f image) image (own 0 (omega arith)) (own 7 (omega arith))
+    (each-append refuses (mend-checks way n flags image before) (reach-check sh f ∷ [])
+    (each-append refuses (early-checks read-values sh n flags image (length before)) (own-checks way)
+    (each-append refuses (image-checks read-values n (image-size sh) image (image-size sh) (length before)) (flag-check sh flags ∷ [])
+    (images (OwnAnswer input) (LeftBy7 input) (image-size sh) before read-values n (image-size sh) image (image-size sh) (length before) (own 1 (omega arith)) (own 2 (omega arith)) (own 3 (omega arith)) (own 4 (omega arith)))
+    (number 5 (omega arith), tt))
+    (own-refusals way n flags image before))
+    (number 6 (omega arith), tt))
     (mends way n flags image before r after c)
 leaves (mend-spans n table image before) r after =
     let sh = base n in
@@ -156,6 +196,11 @@ point-1 input r after c =
 
 -- ## Number 1
 
+later-avoids : (way : Mending) (n flags : ℕ) (image before : List ℕ) → Avoids 1 (later (mend-checks way n flags image before))
+later-avoids repair n flags image before = omega arith
+later-avoids (trace cautious) n flags image before = omega arith
+later-avoids (trace (within ceiling)) n flags image before = omega arith
+
 -- It is given above 256 blocks only, by every call: the other checks and the answers past them have other numbers.
 pub number-1 : (input : Input) (r : Result) (after : List ℕ) → Right input r after → (r .answer ≡ 1) ↔ (256 < block-count input)
 number-1 (encode n payload before) r after =
@@ -166,7 +211,9 @@ number-1 (read n image before) r after =
     (⊎-elim (λ a e. omega (arith, ap answer-of (a .1 .result))) (λ a e. omega (arith, ap answer-of (a .1 .result))))
 number-1 (mend way n flags image before) r after =
     let f = call-flags n flags image in
-    λ c. first-given (count-check n) (later (repair-checks read-values (base n) n flags f image before)) (Mends way (base n) (flags-code (base n) f) f image before) before r after (omega arith)
+    let checks = mend-checks way n flags image before in
+    λ c. first-given (count-check n) (later (checks ++ (reach-check (base n) f ∷ []))) (Mends way (base n) f image before) before r after
+    (each-append (λ c. c .number ≢ 1) (later checks) (reach-check (base n) f ∷ []) (later-avoids way n flags image before) (λ e. omega arith, tt))
     (⊎-elim (λ a e. omega (arith, ap answer-of (a .result))) (λ a e. omega (arith, ap answer-of (a .result))))
     (mends way n flags image before r after c)
 number-1 (mend-spans n table image before) r after =
@@ -190,15 +237,15 @@ point-2 n = round-trip (base n) read-values (omega arith) n (encode-checks (base
 
 -- ## Point 3
 
--- A call that answers 0 met none of numbers 1 to 5.
-pub met-none : (r : Result) → r .answer ≡ 0 → MetNone (1 ∷ 2 ∷ 3 ∷ 4 ∷ 5 ∷ []) r
+-- A call that answers 0 met none of numbers 1 to 5, and not 12.
+pub met-none : (r : Result) → r .answer ≡ 0 → MetNone (1 ∷ 2 ∷ 3 ∷ 4 ∷ 5 ∷ 12 ∷ []) r
 met-none r z = rw z (omega arith)
 
 pub point-3 : (way : Mending) (n flags : ℕ) (image before : List ℕ) (r : Result) (after : List ℕ) → Right (mend way n flags image before) r after →
-    MetNone (1 ∷ 2 ∷ 3 ∷ 4 ∷ 5 ∷ []) r → MendPoint3 way n flags image r after
+    MetNone (1 ∷ 2 ∷ 3 ∷ 4 ∷ 5 ∷ 12 ∷ []) r → MendPoint3 way n flags image r after
 point-3 way n flags image before r after c u =
-    mending-demanded way (base n) refl (call-flags n flags image) (early-checks read-values (base n) n flags image (length before)) image before r after
-    (mends way n flags image before r after c) (omega arith) (4 ≤ n) (λ l. omega arith)
+    mending-demanded way (base n) refl (call-flags n flags image) (mend-checks way n flags image before) image before r after
+    (mends way n flags image before r after c) (mend-avoids way n flags image before (r .answer) (omega arith) (omega arith)) (4 ≤ n) (λ l. omega arith)
 
 -- By cells, of repair with flags by stretch.
 pub point-3-by-cells : (n : ℕ) (table : Table) (image before : List ℕ) (r : Result) (after : List ℕ) → Right (mend-spans n table image before) r after →
@@ -210,8 +257,8 @@ point-3-by-cells n table image before r after c u = span-point-3 n table image b
 pub values : (way : Mending) (n flags : ℕ) (image before : List ℕ) (r : Result) (after : List ℕ) → Right (mend way n flags image before) r after →
     MendValues way n flags image r after
 values way n flags image before r after c =
-    mending-values way (base n) refl (call-flags n flags image) (early-checks read-values (base n) n flags image (length before)) image before r after
-    (mends way n flags image before r after c) (omega arith)
+    mending-values way (base n) refl (call-flags n flags image) (mend-checks way n flags image before) image before r after
+    (mends way n flags image before r after c) (mend-avoids way n flags image before 0 (omega arith) (omega arith))
 
 -- The extras that the calls name are below 18.
 pub extras-numbered : (input : Input) (r : Result) (after : List ℕ) → Right input r after → ExtrasNumbered 18 r

@@ -12,7 +12,7 @@ use Rattle.code.specs.Image.{track-number, all-tracks, image-size, cells
 use Rattle.code.specs.Payload.{payload-size, Carries}
 use Rattle.code.specs.Flags.{TrackFlags, CellFlags, AgreeOff}
 use Rattle.code.specs.Lost.{bit-values}
-use Rattle.code.specs.Reach.{pick, Extra, none, extra, InReach}
+use Rattle.code.specs.Reach.{pick, Extra, none, extra, InReach, Tracing, cautious, within}
 use Rattle.code.specs.Packed.{packed-size, PackedForm}
 use Rattle.code.specs.Spans.{Table}
 use Rattle.code.specs.Files.{entry-blocks, entry-record, entry-size, entry-count, entry-offset, entry-length, directory-size}
@@ -21,6 +21,7 @@ use Rattle.code.specs.Numbers.{
   count-check,
   length-check,
   flag-check,
+  ceiling-check,
   reach-check,
   padding-check,
   table-check,
@@ -34,6 +35,7 @@ use Rattle.code.specs.Numbers.{
   Decides,
   First,
 }
+use Rattle.code.specs.declared.Reach.{Reach}
 use Rattle.code.specs.declared.Written.{Written}
 use Rattle.code.specs.declared.Stretch.{Stretch}
 use Rattle.code.specs.declared.Counted.{Counted}
@@ -175,6 +177,15 @@ early-checks values sh n word image room = image-checks values n (image-size sh)
 abbrev pub repair-checks : ℕ → Shape → ℕ → ℕ → TrackFlags → List ℕ → List ℕ → List {1} Check
 repair-checks values sh n word f image before = early-checks values sh n word image (length before) ++ (reach-check sh f ∷ [])
 
+-- Tracing with a ceiling gives 12 between 5 and 6.
+abbrev pub ceiling-checks : Tracing → List {1} Check
+ceiling-checks cautious = []
+ceiling-checks (within ceiling) = ceiling-check ceiling ∷ []
+
+abbrev pub trace-checks : Tracing → ℕ → Shape → ℕ → ℕ → TrackFlags → List ℕ → List ℕ → List {1} Check
+trace-checks way values sh n word f image before =
+    (early-checks values sh n word image (length before) ++ ceiling-checks way) ++ (reach-check sh f ∷ [])
+
 -- Repair allows no extras: the good records that equal the image on every unflagged cell.
 abbrev pub RepairNear : Shape → CellFlags → List ℕ → Cells → Type 0
 RepairNear sh flag image = AgreeOff sh flag (cells sh image)
@@ -182,15 +193,15 @@ RepairNear sh flag image = AgreeOff sh flag (cells sh image)
 abbrev pub Repairs : Shape → CellFlags → List ℕ → List ℕ → Result → List ℕ → Type 0
 Repairs sh flag image = Mended sh (RepairNear sh flag image) (λ _ _. none) image
 
--- Tracing allows the extras of a code, and names those that were changed.
-abbrev pub TraceNear : Shape → ℕ → TrackFlags → List ℕ → Cells → Type 0
-TraceNear sh code f image = InReach sh code f (cells sh image)
+-- Tracing allows the extras of a reach, and names those that were changed.
+abbrev pub TraceNear : Shape → Reach → TrackFlags → List ℕ → Cells → Type 0
+TraceNear sh w f image = InReach sh w f (cells sh image)
 
 abbrev pub trace-named : Shape → TrackFlags → List ℕ → List ℕ → TrackSet → Extra
 trace-named sh f image after s = changed-extra sh f (cells sh image) (cells sh after) s (tracks sh s)
 
-abbrev pub Traces : Shape → ℕ → TrackFlags → List ℕ → List ℕ → Result → List ℕ → Type 0
-Traces sh code f image = Mended sh (TraceNear sh code f image) (trace-named sh f image) image
+abbrev pub Traces : Shape → Reach → TrackFlags → List ℕ → List ℕ → Result → List ℕ → Type 0
+Traces sh w f image = Mended sh (TraceNear sh w f image) (trace-named sh f image) image
 
 -- ## Document 02, note 5: repair with flags by stretch
 

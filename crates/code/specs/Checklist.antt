@@ -2,18 +2,25 @@
 -- proofs/Checklist).
 use mathlib.Core.Path.{_≡_}
 use mathlib.Core.List.{List}
-use Prim.Native.Nat.{ℕ, _<_}
+use Prim.Native.Nat.{ℕ, _<_, _≤_}
 use lib.ListN.{length, getD}
 use Rattle.code.specs.Record.{base}
 use Rattle.code.specs.Image.{image-size, cells}
 use Rattle.code.specs.Lost.{read-values}
 use Rattle.code.specs.Numbers.{Passed}
 use Rattle.code.specs.Calls.{Result, changed-cells, early-checks}
-use Rattle.code.specs.Supply.{Mending, mend, Right}
+use Rattle.code.specs.Reach.{cautious, within}
+use Rattle.code.specs.Supply.{Mending, repair, trace, mend, Right}
 
 -- A program: block count, flag word, image, output as it came; result and output.
 abbrev pub Program : Type 0
 Program = ℕ → ℕ → List ℕ → List ℕ → Result × List ℕ
+
+-- A ceiling, where the call has one, is not above 2: else 12 is right.
+abbrev pub Taken : Mending → Type 0
+Taken repair = Unit {0}
+Taken (trace cautious) = Unit {0}
+Taken (trace (within ceiling)) = ceiling ≤ 2
 
 -- It meets the contract of repair or of tracing.
 abbrev pub Meets : Mending → Program → Type 0

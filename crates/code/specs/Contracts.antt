@@ -7,7 +7,7 @@ use lib.ListN.{length}
 use Rattle.code.specs.Record.{base}
 use Rattle.code.specs.Flags.{TrackFlags, whole, word-flags}
 use Rattle.code.specs.Lost.{read-values, with-lost}
-use Rattle.code.specs.Reach.{flags-code}
+use Rattle.code.specs.Reach.{Tracing, cautious, within, traced-reach}
 use Rattle.code.specs.Spans.{Table, span-flags}
 use Rattle.code.specs.Files.{entry-count, entry-at, cut, file-of}
 use Rattle.code.specs.Numbers.{file-check, First}
@@ -19,6 +19,7 @@ use Rattle.code.specs.Calls.{
   read-checks,
   ReadOrNot,
   repair-checks,
+  trace-checks,
   Repairs,
   Traces,
   span-checks,
@@ -57,10 +58,10 @@ abbrev pub RepairedBy : ℕ → ℕ → ℕ → TrackFlags → List ℕ → List
 RepairedBy values n word f image before =
     Answered (repair-checks values (base n) n word f image before) (Repairs (base n) (whole f) image before) before
 
--- Tracer: the same, with the extras of the table's code for the flags.
-abbrev pub TracedBy : ℕ → ℕ → ℕ → TrackFlags → List ℕ → List ℕ → Result → List ℕ → Type 0
-TracedBy values n word f image before =
-    Answered (repair-checks values (base n) n word f image before) (Traces (base n) (flags-code (base n) f) f image before) before
+-- Tracer: the same, with the extras that this way of tracing allows beside the flags.
+abbrev pub TracedBy : Tracing → ℕ → ℕ → ℕ → TrackFlags → List ℕ → List ℕ → Result → List ℕ → Type 0
+TracedBy way values n word f image before =
+    Answered (trace-checks way values (base n) n word f image before) (Traces (base n) (traced-reach way (base n) f) f image before) before
 
 -- Document 02, note 2: the flagged tracks are those of the flag word and those with a lost cell.
 abbrev pub call-flags : ℕ → ℕ → List ℕ → TrackFlags
@@ -69,8 +70,13 @@ call-flags n word image = with-lost (base n) (word-flags (base n) word) image
 abbrev pub Repaired : ℕ → ℕ → List ℕ → List ℕ → Result → List ℕ → Type 0
 Repaired n word image = RepairedBy read-values n word (call-flags n word image) image
 
+-- Document 02, note 7: cautious tracing, and tracing with a ceiling: block count, flag word, ceiling, image, output before, answer, output
+-- after.
 abbrev pub Traced : ℕ → ℕ → List ℕ → List ℕ → Result → List ℕ → Type 0
-Traced n word image = TracedBy read-values n word (call-flags n word image) image
+Traced n word image = TracedBy cautious read-values n word (call-flags n word image) image
+
+abbrev pub TracedWithin : ℕ → ℕ → ℕ → List ℕ → List ℕ → Result → List ℕ → Type 0
+TracedWithin n word ceiling image = TracedBy (within ceiling) read-values n word (call-flags n word image) image
 
 -- Repair with flags by stretch, of document 02, note 5: block count, table, image, output before, answer, output after.
 abbrev pub SpansRepaired : ℕ → Table → List ℕ → List ℕ → Result → List ℕ → Type 0

@@ -9,7 +9,7 @@ use Rattle.code.specs.Lost.{read-values}
 use Rattle.code.specs.Reach.{Extra, none, extra}
 use Rattle.code.specs.Numbers.{first-bad}
 use Rattle.code.specs.Calls.{Result, plain}
-use Rattle.code.specs.Contracts.{Encoded, Repaired, Traced}
+use Rattle.code.specs.Contracts.{Encoded, Repaired, Traced, TracedWithin}
 
 -- The index of A(m,t) and of B(m,t).
 abbrev pub a : ℕ → ℕ → ℕ
@@ -34,14 +34,17 @@ pub data Example : Type 0 where
   repair trace : ℕ → List ℕ → Result → List ℕ → Example
   refuse : ℕ → ℕ → Example
 
--- In every output that is long enough. A refusal by flags is the same for every image.
+-- In every output that is long enough. A refusal by flags is the same for every image. What is said of tracing holds of both calls: without
+-- a ceiling, and with 2.
 abbrev pub Holds : Example → Type 0
 Holds (good is) = Good (base 1) (cells (base 1) (ones is))
 Holds (encode payload is) = (before : List ℕ) → 414 ≤ length before → Encoded 1 payload before (plain 0 0) (ones is ++ drop 414 before)
 Holds (repair flags is r os) = (before : List ℕ) → 414 ≤ length before → Repaired 1 flags (ones is) before r (ones os ++ drop 414 before)
-Holds (trace flags is r os) = (before : List ℕ) → 414 ≤ length before → Traced 1 flags (ones is) before r (ones os ++ drop 414 before)
+Holds (trace flags is r os) = (before : List ℕ) → 414 ≤ length before →
+    Traced 1 flags (ones is) before r (ones os ++ drop 414 before) × TracedWithin 1 flags 2 (ones is) before r (ones os ++ drop 414 before)
 Holds (refuse flags number) = (image before : List ℕ) → length image ≡ 414 → first-bad read-values image ≡ 414 → 414 ≤ length before →
-    Repaired 1 flags image before (plain number 0) before × Traced 1 flags image before (plain number 0) before
+    Repaired 1 flags image before (plain number 0) before
+    × (Traced 1 flags image before (plain number 0) before × TracedWithin 1 flags 2 image before (plain number 0) before)
 
 -- The record of the payload 128, 0, …, 0 without its cell A(0,1).
 abbrev pub rest-of-128 : List ℕ

@@ -45,6 +45,10 @@ cell-check values image = record { number = 4; detail = first-bad values image; 
 abbrev pub flag-check : Shape → ℕ → Check
 flag-check sh flags = record { number = 5; detail = 0; applies = 2 ^ all-tracks sh ≤ flags }
 
+-- 12, where tracing takes a ceiling: it is above 2. It is checked after 5.
+abbrev pub ceiling-check : ℕ → Check
+ceiling-check ceiling = record { number = 12; detail = 0; applies = 2 < ceiling }
+
 -- 6: the table's code for the flags is 0.
 abbrev pub reach-check : Shape → TrackFlags → Check
 reach-check sh f = record { number = 6; detail = 0; applies = flags-code sh f ≡ 0 }

@@ -1,12 +1,13 @@
--- Document 01, "Flags and reach": the table of codes, extra tracks, records in reach.
+-- Document 01, "Flags and reach": the table of codes, extra tracks, records in reach; and document 02, note 7: ceilings.
 use mathlib.Core.Path.{_≡_}
 use mathlib.Core.Bool.{Bool, true, false, _&&_, _||_}
 use mathlib.Core.List.{List, [], _∷_}
-use Prim.Native.Nat.{ℕ, _+_, _<_, _≤_}
+use Prim.Native.Nat.{ℕ, _+_, _<_, _≤_, min}
 use lib.ListN.{getD}
 use lib.Dec.{eqb}
 use Rattle.code.specs.Record.{TrackSet, A, B, Shape, tracks, Cells, Good, Same}
 use Rattle.code.specs.Flags.{TrackFlags, whole, AgreeOff, flag-count}
+use Rattle.code.specs.declared.Reach.{Reach}
 
 -- The table: the pairs of flag counts a, b and their codes. Pairs not listed have code 0.
 pub record Row : Type 0 where
@@ -41,13 +42,22 @@ reach-code a b = look-up rows a b
 unfoldable pub flags-code : Shape → TrackFlags → ℕ
 flags-code sh f = reach-code (flag-count sh f A) (flag-count sh f B)
 
--- The extra tracks that a code allows, in each set and in all. By code:      0   1   2   3   4   5
-abbrev pub most-in : ℕ → TrackSet → ℕ
-most-in code A = getD (0 ∷ 0 ∷ 1 ∷ 0 ∷ 1 ∷ 1 ∷ []) code 0
-most-in code B = getD (0 ∷ 0 ∷ 0 ∷ 1 ∷ 1 ∷ 1 ∷ []) code 0
+-- A reach is how many extra tracks are allowed, in A, in B and in all: here those of a code.
+abbrev pub code-reach : ℕ → Reach
+code-reach code =
+    record {
+      -- By code:  0   1   2   3   4   5
+      a = getD (0 ∷ 0 ∷ 1 ∷ 0 ∷ 1 ∷ 1 ∷ []) code 0;
+      b = getD (0 ∷ 0 ∷ 0 ∷ 1 ∷ 1 ∷ 1 ∷ []) code 0;
+      all = getD (0 ∷ 0 ∷ 1 ∷ 1 ∷ 1 ∷ 2 ∷ []) code 0;
+    }
 
-abbrev pub most : ℕ → ℕ
-most code = getD (0 ∷ 0 ∷ 1 ∷ 1 ∷ 1 ∷ 2 ∷ []) code 0
+abbrev pub table-reach : Shape → TrackFlags → Reach
+table-reach sh f = code-reach (flags-code sh f)
+
+abbrev pub most-in : Reach → TrackSet → ℕ
+most-in w A = w .a
+most-in w B = w .b
 
 -- No extra track, or one.
 pub data Extra : Type 0 where
@@ -66,10 +76,10 @@ is (extra u) t = eqb t u
 abbrev pub Choice : Type 0
 Choice = TrackSet → Extra
 
--- A choice that the code allows. An extra track is an unflagged one.
-pub record Allowed (sh : Shape) (code : ℕ) (f : TrackFlags) (e : Choice) : Type 0 where
-  pub in-set : (s : TrackSet) → size (e s) ≤ most-in code s
-  pub in-all : size (e A) + size (e B) ≤ most code
+-- A choice that a reach allows. An extra track is an unflagged one.
+pub record Allowed (sh : Shape) (w : Reach) (f : TrackFlags) (e : Choice) : Type 0 where
+  pub in-set : (s : TrackSet) → size (e s) ≤ most-in w s
+  pub in-all : size (e A) + size (e B) ≤ w .all
   pub track : (s : TrackSet) (t : ℕ) → e s ≡ extra t → t < tracks sh s
   pub unflagged : (s : TrackSet) (t : ℕ) → e s ≡ extra t → f s t ≡ false
 
@@ -77,10 +87,10 @@ pub record Allowed (sh : Shape) (code : ℕ) (f : TrackFlags) (e : Choice) : Typ
 abbrev pub with-extras : TrackFlags → Choice → TrackFlags
 with-extras f e s t = f s t || is (e s) t
 
--- y is in reach of x: it differs from x only in flagged tracks and in extras that the code allows.
-pub record InReach (sh : Shape) (code : ℕ) (f : TrackFlags) (x y : Cells) : Type 0 where
+-- y is in reach of x: it differs from x only in flagged tracks and in extras that are allowed.
+pub record InReach (sh : Shape) (w : Reach) (f : TrackFlags) (x y : Cells) : Type 0 where
   pub choice : Choice
-  pub allowed : Allowed sh code f choice
+  pub allowed : Allowed sh w f choice
   pub agree : AgreeOff sh (whole (with-extras f choice)) x y
 
 -- At most one good record is among these.
@@ -95,3 +105,27 @@ pub record Ambiguous (sh : Shape) (f : TrackFlags) : Type 0 where
   pub good-two : Good sh two
   pub agree : AgreeOff sh (whole f) one two
   pub differ : Same sh one two → ⊥
+
+-- ## Document 02, note 7: which extras the tracing calls allow
+
+-- "A second tracing call takes a ceiling": so many extras in all.
+abbrev pub ceiling-reach : ℕ → Reach
+ceiling-reach ceiling = record { a = ceiling; b = ceiling; all = ceiling }
+
+-- What two reaches both allow.
+abbrev pub both : Reach → Reach → Reach
+both v w = record { a = min (v .a) (w .a); b = min (v .b) (w .b); all = min (v .all) (w .all) }
+
+-- "Without flags, tracing now uses code 4 in place of 5."
+abbrev pub cautious-code : ℕ → ℕ
+cautious-code code = pick (eqb code 5) 4 code
+
+-- The two ways of tracing.
+pub data Tracing : Type 0 where
+  cautious : Tracing
+  within : ℕ → Tracing
+
+-- "In that call a good record is in reach when document 01's table and the ceiling both allow it."
+abbrev pub traced-reach : Tracing → Shape → TrackFlags → Reach
+traced-reach cautious sh f = code-reach (cautious-code (flags-code sh f))
+traced-reach (within ceiling) sh f = both (table-reach sh f) (ceiling-reach ceiling)

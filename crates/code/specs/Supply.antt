@@ -1,9 +1,9 @@
 -- The three points of the supply, a record a point and a field a sentence, what document 01 says besides of the values that repair
--- and tracing return, and what document 02 says of packing, of lost cells, of records of no blocks, of flags by stretch and of
--- cartridge files. Whatever the contracts allow has them: `point-1`, `point-2`, `point-3`, `point-3-by-cells` and `values` of
+-- and tracing return, and what document 02 says of packing, of lost cells, of records of no blocks, of flags by stretch, of cartridge
+-- files and of ceilings. Whatever the contracts allow has them: `point-1`, `point-2`, `point-3`, `point-3-by-cells` and `values` of
 -- proofs/Supply, `packing-undone` and `unpacking-undone` of proofs/Undoing, `as-before` of proofs/Lost, `no-blocks` of proofs/NoBlocks,
 -- `span-values` and `as-repair` of proofs/Stretches, `repair-is-a-case` of proofs/WholeTracks, `writer-point-1`, `written-yields` and
--- `reader-point-1` of proofs/FileCalls.
+-- `reader-point-1` of proofs/FileCalls, `ceilings` of proofs/Ceilings.
 use mathlib.Core.Path.{_≡_}
 use mathlib.Core.Logic.{_⊎_, _≢_, _↔_}
 use mathlib.Core.Bool.{true, false}
@@ -15,9 +15,10 @@ use Rattle.code.specs.Image.{track-number, all-tracks, image-size, cells
 use Rattle.code.specs.Payload.{payload-size, Carries}
 use Rattle.code.specs.Flags.{TrackFlags, whole, word-flags, flag-count, Within}
 use Rattle.code.specs.Packed.{packed-size}
-use Rattle.code.specs.Reach.{flags-code, most, Extra, none, extra, AtMostOne, Ambiguous}
-use Rattle.code.specs.Calls.{Result, plain, Stays, changed-in, changed-cells, RepairNear, TraceNear, no-stretch, counted}
-use Rattle.code.specs.Lost.{bit-values, is-lost}
+use Rattle.code.specs.Reach.{table-reach, ceiling-reach, Extra, none, extra, AtMostOne, Ambiguous, Tracing, cautious, within, traced-reach}
+use Rattle.code.specs.Numbers.{Passed}
+use Rattle.code.specs.Calls.{Result, plain, Answered, Stays, changed-in, changed-cells, early-checks, repair-checks, RepairNear, TraceNear, Traces, no-stretch, counted}
+use Rattle.code.specs.Lost.{bit-values, read-values, is-lost}
 use Rattle.code.specs.Spans.{Table, span-flags, Broken, WindowsCoded, OnTracks, word-table}
 use Rattle.code.specs.Files.{entry-blocks, entry-record, Entry, entry-count, directory-size, Cartridge, cut, joined}
 use Rattle.code.specs.Contracts.{
@@ -29,6 +30,7 @@ use Rattle.code.specs.Contracts.{
   call-flags,
   Repaired,
   Traced,
+  TracedWithin,
   SpansRepaired,
   Viewed,
   WasPacked,
@@ -47,9 +49,10 @@ abbrev pub MetNone : List ℕ → Result → Type 0
 MetNone [] r = Unit {0}
 MetNone (k ∷ ks) r = (r .answer ≢ k) × MetNone ks r
 
--- The two calls that change an image.
+-- The calls that change an image: repair, and tracing in one of its two ways.
 pub data Mending : Type 0 where
-  repair trace : Mending
+  repair : Mending
+  trace : Tracing → Mending
 
 -- ## Point 1
 
@@ -68,7 +71,8 @@ abbrev pub Right : Input → Result → List ℕ → Type 0
 Right (encode n payload before) = Encoded n payload before
 Right (read n image before) = WasRead n image before
 Right (mend repair n flags image before) = Repaired n flags image before
-Right (mend trace n flags image before) = Traced n flags image before
+Right (mend (trace cautious) n flags image before) = Traced n flags image before
+Right (mend (trace (within ceiling)) n flags image before) = TracedWithin n flags ceiling image before
 Right (mend-spans n table image before) = SpansRepaired n table image before
 Right (pack n image before) = WasPacked n image before
 Right (unpack n packed before) = WasUnpacked n packed before
@@ -82,11 +86,13 @@ output-before (pack n image before) = before
 output-before (unpack n packed before) = before
 
 -- "The encoder gives only 1 to 3, the reader 1 to 4 and 7." Of packing and unpacking: "numbers 1 to 4 apply by their own lengths",
--- and "8, on unpacking". Of flags by stretch: "9, … checked in place of 5".
+-- and "8, on unpacking". Of flags by stretch: "9, … checked in place of 5". Of a ceiling: "12, a ceiling above 2".
 abbrev pub OwnAnswer : Input → ℕ → Type 0
 OwnAnswer (encode n payload before) k = k ≤ 3
 OwnAnswer (read n image before) k = (k ≤ 4) ⊎ (k ≡ 7)
-OwnAnswer (mend way n flags image before) k = k ≤ 7
+OwnAnswer (mend repair n flags image before) k = k ≤ 7
+OwnAnswer (mend (trace cautious) n flags image before) k = k ≤ 7
+OwnAnswer (mend (trace (within ceiling)) n flags image before) k = (k ≤ 7) ⊎ (k ≡ 12)
 OwnAnswer (mend-spans n table image before) k = ((k ≤ 7) × (k ≢ 5)) ⊎ (k ≡ 9)
 OwnAnswer (pack n image before) k = k ≤ 4
 OwnAnswer (unpack n packed before) k = (k ≤ 3) ⊎ (k ≡ 8)
@@ -111,10 +117,10 @@ LeftBy7 (unpack n packed before) after = after ≡ before
 
 pub record Point1 (input : Input) (r : Result) (after : List ℕ) : Type 0 where
   -- "The answer to any call but the track view is 0 or one of the seven numbers, for every block count, length, cell value and flag word."
-  -- Document 02: "The later numbers join the seven in point 1 of the supply": of these calls up to 9.
-  pub answer : r .answer ≤ 9
+  -- Document 02: "The later numbers join the seven in point 1 of the supply": twelve by now.
+  pub answer : r .answer ≤ 12
   pub own-answer : OwnAnswer input (r .answer)
-  -- "It always comes, it presumes no check made by the calling program," — that the calls of crates/codec, crates/repair,
+  -- "It always comes, it presumes no check made by the calling program," — that the calls of crates/codec, crates/repair, crates/trace,
   -- crates/packed, crates/spans and crates/axp_c end, and meet `Right` without a `requires`, is what the checker proves of each of them.
   -- "and beside each number the document fixes every byte of the output."
   pub fixed : (other : Result) (bytes : List ℕ) → Right input other bytes → (other ≡ r) × (bytes ≡ after)
@@ -145,10 +151,11 @@ pub record Point2 (sh : Shape) (n : ℕ) (encoded was-read : List ℕ → List �
 -- ## Point 3
 
 -- Which records a call may hand out: those that differ from what was read only in flagged tracks and, with tracing, in the further
--- tracks that a code allows.
-abbrev pub near-by : Mending → Shape → ℕ → TrackFlags → List ℕ → Cells → Type 0
-near-by repair sh code f image = RepairNear sh (whole f) image
-near-by trace sh code f image = TraceNear sh code f image
+-- tracks that its reach allows. Document 02, note 7: "For both tracing calls, point 3 of the supply speaks of the good records then in
+-- reach."
+abbrev pub near-by : Mending → Shape → TrackFlags → List ℕ → Cells → Type 0
+near-by repair sh f image = RepairNear sh (whole f) image
+near-by (trace way) sh f image = TraceNear sh (traced-reach way sh f) f image
 
 -- Some cell of track t differs.
 pub record Differ (sh : Shape) (x y : Cells) (s : TrackSet) (t : ℕ) : Type 0 where
@@ -156,7 +163,8 @@ pub record Differ (sh : Shape) (x y : Cells) (s : TrackSet) (t : ℕ) : Type 0 w
   pub inside : position < track-length sh
   pub unequal : x s t position ≢ y s t position
 
--- "Whatever was read, after a repair or a tracing that met none of numbers 1 to 5:"
+-- "Whatever was read, after a repair or a tracing that met none of numbers 1 to 5:" — document 02: "point 3 speaks of calls that met none
+-- of 9, 12 and 13 either."
 -- `near` are the records that the call may hand out, `limit` the limit on flagged tracks, `long` that the record has four blocks or
 -- more, and `doubt` that two different good records of that length agree on all unflagged tracks.
 pub record Point3 (sh : Shape) (near : Cells → Type 0) (limit long doubt : Type 0) (image : List ℕ) (r : Result) (after : List ℕ) : Type 0 where
@@ -179,12 +187,12 @@ pub record Point3 (sh : Shape) (near : Cells → Type 0) (limit long doubt : Typ
   pub said-6 : long → (r .answer ≡ 6) ↔ doubt
 
 -- Of repair and tracing: n blocks, the tracks that the flag word flags and those with a lost cell (document 02, note 2: "the same
--- single good record, over the widened flags"), the extras of the table's code for them.
+-- single good record, over the widened flags"), the extras that the call allows beside them.
 abbrev pub MendPoint3 : Mending → ℕ → ℕ → List ℕ → Result → List ℕ → Type 0
 MendPoint3 way n flags image =
     let sh = base n in
     let f = call-flags n flags image in
-    Point3 sh (near-by way sh (flags-code sh f) f image) (Within sh f) (4 ≤ n) (Ambiguous sh f) image
+    Point3 sh (near-by way sh f image) (Within sh f) (4 ≤ n) (Ambiguous sh f) image
 
 -- ## Document 01, of the values that repair and tracing return
 
@@ -192,10 +200,10 @@ abbrev pub extra-in : Result → TrackSet → Extra
 extra-in r A = r .extra-a
 extra-in r B = r .extra-b
 
--- The tracks allowed: the flagged ones and, with tracing, the extras of a code.
-abbrev pub tracks-allowed : Mending → Shape → ℕ → TrackFlags → ℕ
-tracks-allowed repair sh code f = flag-count sh f A + flag-count sh f B
-tracks-allowed trace sh code f = flag-count sh f A + flag-count sh f B + most code
+-- The tracks allowed: the flagged ones and, with tracing, the extras of its reach.
+abbrev pub tracks-allowed : Mending → Shape → TrackFlags → ℕ
+tracks-allowed repair sh f = flag-count sh f A + flag-count sh f B
+tracks-allowed (trace way) sh f = flag-count sh f A + flag-count sh f B + traced-reach way sh f .all
 
 -- Track number g is the only changed track of a set outside the flags.
 pub record OnlyChanged (sh : Shape) (f : TrackFlags) (x y : Cells) (s : TrackSet) (g : ℕ) : Type 0 where
@@ -223,7 +231,7 @@ abbrev pub MendValues : Mending → ℕ → ℕ → List ℕ → Result → List
 MendValues way n flags image =
     let sh = base n in
     let f = call-flags n flags image in
-    Values sh f (tracks-allowed way sh (flags-code sh f) f) image
+    Values sh f (tracks-allowed way sh f) image
 
 -- ## Document 02, note 1: "Each undoes the other on what it accepts"
 
@@ -254,8 +262,8 @@ pub record AsBefore (n : ℕ) (image before : List ℕ) : Type 0 where
   pub read : (r : Result) (after : List ℕ) → WasRead n image before r after ↔ ReadBy bit-values n image before r after
   pub repair : (word : ℕ) (r : Result) (after : List ℕ) →
       Repaired n word image before r after ↔ RepairedBy bit-values n word (word-flags (base n) word) image before r after
-  pub trace : (word : ℕ) (r : Result) (after : List ℕ) →
-      Traced n word image before r after ↔ TracedBy bit-values n word (word-flags (base n) word) image before r after
+  pub trace : (way : Tracing) (word : ℕ) (r : Result) (after : List ℕ) →
+      TracedBy way read-values n word (call-flags n word image) image before r after ↔ TracedBy way bit-values n word (word-flags (base n) word) image before r after
 
 -- ## Document 02, note 3: records of no blocks
 
@@ -291,8 +299,8 @@ pub record NoBlocks : Type 0 where
   pub mended : (way : Mending) (flags : ℕ) (image before : List ℕ) (r : Result) (after : List ℕ) → Right (mend way 0 flags image before) r after →
       r .answer ≡ 0 → Zeros 270 after
   pub found : (way : Mending) (flags : ℕ) (image before : List ℕ) (r : Result) (after : List ℕ) → Right (mend way 0 flags image before) r after →
-      MetNone (1 ∷ 2 ∷ 3 ∷ 4 ∷ 5 ∷ []) r → let f = call-flags 0 flags image in
-      Within (base 0) f → (r .answer ≡ 0) ↔ near-by way (base 0) (flags-code (base 0) f) f image blank
+      MetNone (1 ∷ 2 ∷ 3 ∷ 4 ∷ 5 ∷ 12 ∷ []) r → let f = call-flags 0 flags image in
+      Within (base 0) f → (r .answer ≡ 0) ↔ near-by way (base 0) f image blank
   -- The track view hands over the fifteen cells of a track.
   pub viewed : (image : List ℕ) (g : ℕ) (part : List ℕ) → Viewed 0 image g part → length image ≡ 270 → g < 18 → part ≡ take 15 (drop (g * 15) image)
 
@@ -381,3 +389,32 @@ pub record ReaderPoint1 (file : List ℕ) (i : ℕ) (r : Stretch) : Type 0 where
   pub shown : (part : List ℕ) → EntryShown file i part → part ≡ take (r .length) (drop (r .offset) file)
   -- The number of entries is told of the same files.
   pub numbered : (c : Counted) → FileCounted file c → (r .answer ≡ 0 → c ≡ counted 0 (entry-count file)) × (r .answer ≢ 0 → c ≡ counted 10 0)
+
+-- ## Document 02, note 7: tracing with a ceiling
+
+-- Tracing as document 01 has it: the extras of the table, without a ceiling.
+abbrev pub TracedByTable : ℕ → ℕ → List ℕ → List ℕ → Result → List ℕ → Type 0
+TracedByTable n word image before =
+    let f = call-flags n word image in
+    Answered (repair-checks read-values (base n) n word f image before) (Traces (base n) (table-reach (base n) f) f image before) before
+
+pub record Ceilings (n word : ℕ) (image before : List ℕ) : Type 0 where
+  -- "In that call a good record is in reach when document 01's table and the ceiling both allow it."
+  pub both-allow : (ceiling : ℕ) (y : Cells) → let f = call-flags n word image in
+      near-by (trace (within ceiling)) (base n) f image y ↔
+      (TraceNear (base n) (table-reach (base n) f) f image y × TraceNear (base n) (ceiling-reach ceiling) f image y)
+  -- "0 no extras": the call is repair, in every returned number and every byte.
+  pub at-0 : (r : Result) (after : List ℕ) → TracedWithin n word 0 image before r after ↔ Repaired n word image before r after
+  -- "1 one in all": it is the call without a ceiling, which "uses code 4 in place of 5".
+  pub at-1 : (r : Result) (after : List ℕ) → TracedWithin n word 1 image before r after ↔ Traced n word image before r after
+  -- "2 the table of document 01": "they pass 2 and their listings hold".
+  pub at-2 : (r : Result) (after : List ℕ) → TracedWithin n word 2 image before r after ↔ TracedByTable n word image before r after
+  -- What a lower ceiling finds a higher one finds too, with the same answer and the same output; where a higher one finds none, a lower
+  -- one finds none.
+  pub higher : (low high : ℕ) → low ≤ high → high ≤ 2 → (r : Result) (after : List ℕ) → TracedWithin n word low image before r after → r .answer ≡ 0 →
+      TracedWithin n word high image before r after
+  pub lower : (low high : ℕ) → low ≤ high → high ≤ 2 → (r : Result) (after : List ℕ) → TracedWithin n word high image before r after → r .answer ≡ 7 →
+      TracedWithin n word low image before r after
+  -- "12, a ceiling above 2, checked after 5"
+  pub said-12 : (ceiling : ℕ) (r : Result) (after : List ℕ) → TracedWithin n word ceiling image before r after →
+      (r .answer ≡ 12) ↔ (Passed (early-checks read-values (base n) n word image (length before)) × (2 < ceiling))

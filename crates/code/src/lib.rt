@@ -1,4 +1,4 @@
-// The sizes of a record, the table of reach codes, what reading a cell yields, a pair of a table of stretches, and what a call answers.
+// The sizes of a record, the table of reach codes and what they allow, what reading a cell yields, a pair of a table of stretches, and what a call answers.
 ghost use mathlib.Core.Path.{_≡_};
 ghost use Prim.Native.Nat.{_<_};
 ghost use Rattle.code.specs.Lost.{byte-of, read-values, is-lost};
@@ -28,7 +28,7 @@ pub const REACH: [[u8; 10]; 10] = [
 ];
 
 // The table's code for two flag counts; pairs beyond the table have code 0.
-pub fn reach(a: usize, b: usize) -> u8
+pub fn reach_code(a: usize, b: usize) -> u8
     ensures { λ r. ⌜ r ≡ reach-code a b ⌝ }
 {
     if 10 <= a {
@@ -38,6 +38,13 @@ pub fn reach(a: usize, b: usize) -> u8
         return 0;
     }
     REACH[a][b]
+}
+
+// The extra tracks that are allowed, in A, in B and in all.
+pub struct Reach {
+    pub a: usize,
+    pub b: usize,
+    pub all: usize,
 }
 
 // What reading a cell yields: a bit, 0 or 1, or a cell that the drive could not read.

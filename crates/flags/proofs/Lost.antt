@@ -7,9 +7,9 @@ use native.Mathlib.Omega.{arith}
 use lib.Dec.{eqb}
 use lib.ListN.{length, getD, set}
 use Rattle.code.specs.Record.{track-length}
-use Rattle.code.specs.Image.{track-number, all-tracks}
+use Rattle.code.specs.Image.{track-number, all-tracks, cells}
 use Rattle.code.specs.Flags.{TrackFlags}
-use Rattle.code.specs.Lost.{read-values, is-lost}
+use Rattle.code.specs.Lost.{read-values, is-lost, lost-tracks}
 use Rattle.code.specs.Reach.{pick}
 use Rattle.code.specs.Sizes.{shape, Small}
 use Rattle.code.specs.declared.Sizes.{Sizes}
@@ -21,7 +21,8 @@ use Rattle.track.proofs.Cells.{Written, written-more}
 use Rattle.track.proofs.Lost.{most-reading, most-lost}
 use Rattle.track.proofs.Rows.{part, part-length, part-row, part-readings}
 use Rattle.solver.specs.Solver.{marked}
-use Rattle.flags.specs.Marks.{lost-at, LostMarked}
+use Rattle.flags.specs.Marks.{Marks, lost-at, LostMarked, CallMarks}
+use Rattle.flags.proofs.Bits.{marks-same}
 
 -- ## Tracks with a lost cell
 
@@ -69,3 +70,10 @@ module _ (z : Sizes) (marks image : List ℕ) (small : Small z) (size-is : lengt
     size = size-is;
     flags = λ s t l. sym (ap (λ (f : TrackFlags). f s t) (not-widened image (λ i. bit-known _ (bits i)) (shape z) (marked (shape z) marks)));
   }
+
+-- The marks of a flag word, widened.
+pub call-marked : (z : Sizes) (word : ℕ) (first image r : List ℕ) → Small z → Marks word first → LostMarked (shape z) first image r → CallMarks (shape z) word image r
+call-marked z word first image r small m lost = record {
+  size = lost .size;
+  flags = λ s t l. lost .flags s t l ∙ ap (λ (b : Bool). b || lost-tracks (shape z) (cells (shape z) image) s t) (marks-same z word first small m s t l);
+}

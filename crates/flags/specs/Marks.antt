@@ -7,7 +7,7 @@ use lib.Dec.{eqb}
 use lib.ListN.{length, getD}
 use Rattle.code.specs.Record.{TrackSet, Shape, tracks, sum}
 use Rattle.code.specs.Image.{image-size}
-use Rattle.code.specs.Flags.{bit, any}
+use Rattle.code.specs.Flags.{bit, word-flags, any}
 use Rattle.code.specs.Lost.{is-lost, with-lost}
 use Rattle.track.specs.Track.{Readings}
 use Rattle.solver.specs.Solver.{marked}
@@ -30,6 +30,11 @@ pub record ReadImage (sh : Shape) (image : List ℕ) : Type 0 where
 pub record LostMarked (sh : Shape) (marks image r : List ℕ) : Type 0 where
   pub size : length r ≡ 18
   pub flags : (s : TrackSet) (t : ℕ) → t < tracks sh s → marked sh r s t ≡ with-lost sh (marked sh marks) image s t
+
+-- The marks of the tracks that a flag word flags, and of those with a lost cell.
+pub record CallMarks (sh : Shape) (word : ℕ) (image r : List ℕ) : Type 0 where
+  pub size : length r ≡ 18
+  pub flags : (s : TrackSet) (t : ℕ) → t < tracks sh s → marked sh r s t ≡ with-lost sh (word-flags sh word) image s t
 
 -- What a mark counts.
 pub record Counts (x r : ℕ) : Type 0 where

@@ -9,7 +9,7 @@ ghost use Rattle.code.specs.Sizes.{shape, Small};
 ghost use Rattle.track.specs.Track.{Readings};
 ghost use Rattle.checks.specs.Lost.{LostTold};
 ghost use Rattle.solver.specs.Solver.{marked};
-ghost use Rattle.flags.specs.Marks.{Marks, lost-at, ReadImage, LostMarked, Counts, marks-in};
+ghost use Rattle.flags.specs.Marks.{Marks, lost-at, ReadImage, LostMarked, CallMarks, Counts, marks-in};
 
 // The marks of a flag word: one a track number.
 pub fn marks_of(flags: u32) -> [u8; 18]
@@ -45,7 +45,7 @@ fn lost_mark(x: u8, found: bool) -> u8
 }
 
 // The marks, and those of the tracks with a lost cell. An image without one is not scanned again.
-pub fn mark_lost(z: Sizes, marks: [u8; 18], image: &[u8], lost: bool) -> [u8; 18]
+fn mark_lost(z: Sizes, marks: [u8; 18], image: &[u8], lost: bool) -> [u8; 18]
     requires { ⌜ Small z ⌝ }
     requires { ⌜ length marks ≡ 18 ⌝ }
     requires { ⌜ ReadImage (shape z) (now image) ⌝ }
@@ -64,6 +64,16 @@ pub fn mark_lost(z: Sizes, marks: [u8; 18], image: &[u8], lost: bool) -> [u8; 18
         g += 1;
     }
     wide
+}
+
+// The marks of a call: those of its flag word, and those of the tracks with a lost cell.
+pub fn call_marks(z: Sizes, flags: u32, image: &[u8], lost: bool) -> [u8; 18]
+    requires { ⌜ Small z ⌝ }
+    requires { ⌜ ReadImage (shape z) (now image) ⌝ }
+    requires { ⌜ LostTold (now image) lost ⌝ }
+    ensures { λ r. ⌜ CallMarks (shape z) flags (now (image .entry)) r ⌝ }
+{
+    mark_lost(z, marks_of(flags), image, lost)
 }
 
 // What a mark counts.
@@ -94,5 +104,5 @@ pub fn code_of(z: Sizes, marks: &[u8]) -> u8
     ensures { λ r. ⌜ r ≡ flags-code (shape z) (marked (shape z) (now (marks .entry))) ⌝ }
 {
     let a = z.t1 + 2;
-    code::reach(count_marks(marks, 0, a), count_marks(marks, a, z.t2 + 2))
+    code::reach_code(count_marks(marks, 0, a), count_marks(marks, a, z.t2 + 2))
 }

@@ -1,35 +1,32 @@
 -- The calls: their checks, the part of the output that is worked on, and marks in place of flags.
-use mathlib.Core.Path.{_≡_, refl, sym, ap, subst, _∙_}
+use mathlib.Core.Path.{_≡_, refl, sym, _∙_}
 use mathlib.Core.Logic.{_≢_, inl, inr}
-use mathlib.Core.Bool.{Bool, _||_}
 use mathlib.Core.List.{List, [], _∷_, _++_}
 use Prim.Native.Nat.{ℕ, _*_, _≤_}
 use native.Mathlib.Omega.{arith}
 use lib.ListN.{length, take, drop}
 use lib.Seq.{length-take-le}
-use Rattle.code.specs.Record.{base, Shape, tracks}
+use Rattle.code.specs.Record.{base, Shape}
 use Rattle.code.specs.Image.{image-size, cells}
 use Rattle.code.specs.Flags.{TrackFlags, whole, word-flags}
-use Rattle.code.specs.Lost.{read-values, lost-tracks}
+use Rattle.code.specs.Lost.{read-values}
 use Rattle.code.specs.Reach.{flags-code, none}
 use Rattle.code.specs.Numbers.{Check, image-checks, flag-check, reach-check, Passed}
-use Rattle.code.specs.Calls.{Result, plain, Refused, Answered, early-checks, repair-checks, RepairNear, Repairs, TraceNear, trace-named, Traces}
-use Rattle.code.specs.Contracts.{call-flags, Repaired, Traced}
+use Rattle.code.specs.Calls.{Result, plain, Refused, Answered, early-checks, repair-checks, RepairNear, Repairs}
+use Rattle.code.specs.Contracts.{call-flags, Repaired}
 use Rattle.code.specs.Sizes.{Small}
 use Rattle.code.specs.declared.Sizes.{Sizes}
-use Rattle.code.proofs.Changed.{changed-extra-same}
 use Rattle.code.proofs.Lost.{none-lost}
 use Rattle.code.proofs.Numbers.{first-after, passed-both}
-use Rattle.code.proofs.Outputs.{own-cells, repair-all, trace-all, mended-as}
+use Rattle.code.proofs.Outputs.{repair-all, mended-as}
 use Rattle.code.proofs.Same.{SameFlags, code-same}
 use Rattle.solver.specs.Solver.{marked}
 use Rattle.checks.specs.First.{FirstAnswer}
 use Rattle.code.proofs.Accepted.{ImageRight, image-right}
 use Rattle.checks.proofs.Refusing.{refuses-call, passes}
-use Rattle.flags.specs.Marks.{Marks, ReadImage, LostMarked}
+use Rattle.flags.specs.Marks.{ReadImage, CallMarks}
 use Rattle.repair.specs.Steps.{Given}
-use Rattle.flags.proofs.Bits.{marks-same}
-use Rattle.repair.proofs.Flagging.{agree-same, reach-same}
+use Rattle.repair.proofs.Flagging.{agree-same}
 
 -- ## Checks
 
@@ -74,11 +71,6 @@ module _ (sh : Shape) (image before : List ℕ) (r : Result) (after : List ℕ) 
     repairs-as = mended-as sh image before r after (RepairNear sh (whole f) image) (RepairNear sh (whole g) image) (λ _ _. none) (λ _ _. none)
         (agree-same sh f g same (cells sh image)) (agree-same sh g f back (cells sh image)) (λ s. refl)
 
-    pub traces-as : (code : ℕ) → Traces sh code f image before r after → Traces sh code g image before r after
-    traces-as code = mended-as sh image before r after (TraceNear sh code f image) (TraceNear sh code g image) (trace-named sh f image) (trace-named sh g image)
-        (reach-same sh f g same code (cells sh image)) (reach-same sh g f back code (cells sh image))
-        (λ s. changed-extra-same sh _ _ _ _ (own-cells sh image) (own-cells sh after) f g s (same s) (tracks sh s) (omega arith))
-
 -- ## The calls, by the marks of a flag word and of lost cells
 
 module _ (n word : ℕ) (image : List ℕ) (room : ℕ) (p : Passed (early-checks read-values (base n) n word image room)) where
@@ -91,8 +83,8 @@ module _ (n word : ℕ) (image : List ℕ) (room : ℕ) (p : Passed (early-check
   pub has-room : image-size (base n) ≤ room
   has-room = right (base n) n word image room p .sizes .fits
 
-module _ (n word : ℕ) (image out : List ℕ) (p : Passed (early-checks read-values (base n) n word image (length out))) (first marks : List ℕ) (m : Marks word first)
-    (lost : LostMarked (base n) first image marks) where
+module _ (n word : ℕ) (image out : List ℕ) (p : Passed (early-checks read-values (base n) n word image (length out))) (marks : List ℕ)
+    (m : CallMarks (base n) word image marks) where
   abbrev by-marks : TrackFlags
   by-marks = marked (base n) marks
 
@@ -103,11 +95,8 @@ module _ (n word : ℕ) (image out : List ℕ) (p : Passed (early-checks read-va
   abbrev size : ℕ
   size = image-size (base n)
 
-  same : SameFlags (base n) by-marks by-word
-  same s t l = lost .flags s t l ∙ ap (λ (b : Bool). b || lost-tracks (base n) (cells (base n) image) s t) (marks-same (sizes n) word first (small n word image (length out) p) m s t l)
-
-  code-is : flags-code (base n) by-marks ≡ flags-code (base n) by-word
-  code-is = code-same (base n) by-marks by-word same
+  pub code-is : flags-code (base n) by-marks ≡ flags-code (base n) by-word
+  code-is = code-same (base n) by-marks by-word (m .flags)
 
   -- What the work on the record asks.
   pub given : flags-code (base n) by-marks ≢ 0 → Given (sizes n) marks image (take size out)
@@ -116,9 +105,9 @@ module _ (n word : ℕ) (image out : List ℕ) (p : Passed (early-checks read-va
       record {
         small = small n word image (length out) p;
         image-is = read-image n word image (length out) p;
-        covered = λ s t k l b e. none-lost (base n) (word-flags (base n) word) image s t k (sym (same s t l) ∙ e) b;
+        covered = λ s t k l b e. none-lost (base n) (word-flags (base n) word) image s t k (sym (m .flags s t l) ∙ e) b;
         out-has = length-take-le size out (i .sizes .fits);
-        marks-size = lost .size;
+        marks-size = m .size;
         coded = c;
       }
 
@@ -140,9 +129,4 @@ module _ (n word : ℕ) (image out : List ℕ) (p : Passed (early-checks read-va
 
       pub repaired : Repairs (base n) (whole by-marks) image (take size out) r part → Repaired n word image out r (part ++ drop size out)
       repaired d = called (base n) n word by-word image out (Repairs (base n) (whole by-word) image out) r p coded _
-          (repairs-as (base n) image out r _ by-marks by-word same (repair-all (base n) image out part room whole-part (whole by-marks) r d))
-
-      pub traced : Traces (base n) (flags-code (base n) by-marks) by-marks image (take size out) r part → Traced n word image out r (part ++ drop size out)
-      traced d = called (base n) n word by-word image out (Traces (base n) (flags-code (base n) by-word) by-word image out) r p coded _
-          (subst (λ (k : ℕ). Traces (base n) k by-word image out r (part ++ drop size out)) code-is
-          (traces-as (base n) image out r _ by-marks by-word same (flags-code (base n) by-marks) (trace-all (base n) image out part room whole-part (flags-code (base n) by-marks) by-marks r d)))
+          (repairs-as (base n) image out r _ by-marks by-word (m .flags) (repair-all (base n) image out part room whole-part (whole by-marks) r d))

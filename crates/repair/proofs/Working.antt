@@ -1,27 +1,21 @@
--- What comes of a plan's solution, and of a choice of extras that is tried.
-use mathlib.Core.Path.{_≡_, refl, sym, ap, subst, _∙_}
+-- What comes of a plan's solution.
+use mathlib.Core.Path.{_≡_, sym, ap, subst, _∙_}
 use mathlib.Core.Bool.{Bool, true, false, true≢false}
 use mathlib.Core.List.{List}
-use Prim.Native.Nat.{ℕ, _≤_}
-use native.Mathlib.Omega.{arith}
+use Prim.Native.Nat.{ℕ}
 use lib.ListN.{length}
 use Rattle.code.specs.Record.{A, B, Shape}
 use Rattle.code.specs.Image.{cells}
 use Rattle.code.specs.Flags.{TrackFlags, whole, AgreeOff}
-use Rattle.code.specs.Reach.{flags-code, Choice, Allowed, with-extras}
 use Rattle.code.specs.Sizes.{shape}
 use Rattle.code.specs.declared.Sizes.{Sizes}
-use Rattle.code.proofs.Codes.{code-small}
 use Rattle.code.proofs.Patterns.{in-each}
 use Rattle.syndrome.specs.Syndrome.{Kept}
 use Rattle.solver.specs.declared.Plan.{Plan}
 use Rattle.solver.specs.Solver.{marked, Planned, Fills, plan-of, Solved}
 use Rattle.changes.specs.Changes.{OnlyMarked}
-use Rattle.repair.specs.Steps.{Workable, Worked, Widened, Traceable, Tried}
-use Rattle.code.proofs.Same.{SameFlags}
-use Rattle.repair.proofs.Flagging.{within-same, agree-same, allowed-within, beside, frame-agree}
-
--- ## A plan's solution
+use Rattle.repair.specs.Steps.{Workable, Worked}
+use Rattle.repair.proofs.Flagging.{beside, frame-agree}
 
 -- The copy has the image's syndromes.
 pub workable-kept : (z : Sizes) (marks image out syn : List ℕ) → Workable z marks image out syn → Kept z out syn
@@ -70,50 +64,3 @@ module _ (z : Sizes) (marks image out syn : List ℕ) (given : Workable z marks 
           (subst (λ (xs : List ℕ). AgreeOff sh (whole f) (cells sh xs) y) (sym (given .copy)) n);
       back = λ _. e;
     }
-
--- ## A choice of extras
-
-module _ (z : Sizes) (code : ℕ) (marks image first : List ℕ) (given : Traceable z code marks image first) where
-  abbrev own : TrackFlags
-  own = marked (shape z) marks
-
-  -- Codes are 0 to 5.
-  pub code-le : code ≤ 5
-  unfolding flags-code
-  code-le = rw (given .code-is) (code-small _ _)
-
-  module _ (e : Choice) (wide : List ℕ) (widened : Widened (shape z) marks e wide) where
-    abbrev wider : TrackFlags
-    wider = marked (shape z) wide
-
-    -- The marks are the flags with the choice.
-    back : SameFlags (shape z) (with-extras own e) wider
-    back s t l = sym (widened .flags s t l)
-
-    -- The marks with an allowed choice can be worked with.
-    pub choice-workable : Allowed (shape z) code own e → (out syn : List ℕ) → out ≡ image → syn ≡ first → Workable z wide image out syn
-    choice-workable a out syn p q = record {
-      kept = subst (λ (xs : List ℕ). Kept z image xs) (sym q) (given .kept);
-      copy = p;
-      marks-size = omega (arith, widened .size, given .marks-size, given .kept .small);
-      within = within-same (shape z) _ wider back refl
-          (allowed-within (shape z) own e refl (λ h. given .coded (given .code-is ∙ h)) (subst (λ (k : ℕ). Allowed (shape z) k own e) (given .code-is) a));
-    }
-
-    -- What comes of the marks is what comes of the choice.
-    pub choice-tried : Allowed (shape z) code own e → (after : List ℕ) (r : Bool) → Worked (shape z) wider image after r → Tried (shape z) code own image e after r
-    choice-tried a after r w = record {
-      size = w .size;
-      fits = λ h. record { good = w .good h; allowed = a; agree = agree-same (shape z) wider _ (widened .flags) _ _ (w .agree h) };
-      no-fit = λ h y n. w .no-record h y (n .good) (agree-same (shape z) _ wider back _ _ (n .agree));
-      back = w .back;
-    }
-
-  -- A choice that is not allowed fits nothing.
-  pub choice-passed : (e : Choice) → (Allowed (shape z) code own e → ⊥) → (out : List ℕ) → out ≡ image → Tried (shape z) code own image e out false
-  choice-passed e d out p = record {
-    size = ap length p ∙ given .kept .image .size;
-    fits = λ h. absurd (true≢false (sym h));
-    no-fit = λ h y n. d (n .allowed);
-    back = λ h. p;
-  }

@@ -21,13 +21,13 @@ add-count-marks c = search needs
 count-marks-requires-2 : tie.Need-count-marks-requires-2
 count-marks-requires-2 c κs = search needs
 
-reach-requires : tie.Need-reach-requires
-reach-requires c κs = search needs
+reach-code-requires : tie.Need-reach-code-requires
+reach-code-requires c κs = search needs
 
 returns : tie.Need-returns
 returns c =
     let i = c .before .before .before .before .before .before .args in
-    c .reach .ensures ∙ ap₂ reach-code (c .before .before .before .count-marks .ensures) (c .before .count-marks2 .ensures)
+    c .reach-code .ensures ∙ ap₂ reach-code (c .before .before .before .count-marks .ensures) (c .before .count-marks2 .ensures)
     ∙ marks-code (shape (i .z)) (now (i .marks)) _ _ (omega arith) (omega arith)
 
 pub code-of-spec : {M : Type 1} → statement M
@@ -38,5 +38,5 @@ code-of-spec =
     count-marks-requires
     add-count-marks
     count-marks-requires-2
-    reach-requires
+    reach-code-requires
     returns)

@@ -21,7 +21,7 @@ use Rattle.repair.proofs.repair.Tie as tie
 passes : (c : tie.Else1) → let a = c .before .before .before .before .before .before .args in Passed (early-checks read-values (base (a .blocks)) (a .blocks) (a .flags) (now (a .image)) (length (now (a .out))))
 passes c = let a = c .before .before .before .before .before .before .args in passed (base (a .blocks)) _ _ _ _ _ (c .before .before .before .check .ensures .0) (c .if1 .left)
 
-coded : (c : tie.Else2) → let a = c .before .before .before .before .before .before .before .before .before .before .before .args in flags-code (base (a .blocks)) (marked (base (a .blocks)) (c .before .before .before .mark-lost .result)) ≢ 0
+coded : (c : tie.Else2) → let a = c .before .before .before .before .before .before .before .before .before .before .args in flags-code (base (a .blocks)) (marked (base (a .blocks)) (c .before .before .before .call-marks .result)) ≢ 0
 coded c e = c .if2 .left (c .before .code-of .ensures ∙ e)
 
 check-requires : tie.Need-check-requires
@@ -35,27 +35,24 @@ returns c =
 mul-repair-record : tie.Need-mul-repair-record
 mul-repair-record c = search needs
 
-marks-of-requires : tie.Need-marks-of-requires
-marks-of-requires c κs = search needs
-
-mark-lost-requires : tie.Need-mark-lost-requires
-mark-lost-requires c κs =
-    let p = passes (c .before) in
-    (small _ _ _ _ p, (c .marks-of .ensures .size, (read-image _ _ _ _ p, c .before .before .before .before .check .ensures .1 (c .before .if1 .left))))
+call-marks-requires : tie.Need-call-marks-requires
+call-marks-requires c κs =
+    let p = passes c in
+    (small _ _ _ _ p, (read-image _ _ _ _ p, c .before .before .before .check .ensures .1 (c .if1 .left)))
 
 slice-aggregate-code-of : tie.Need-slice-aggregate-code-of
 slice-aggregate-code-of c = search needs
 
 code-of-requires : tie.Need-code-of-requires
-code-of-requires c κs = (small _ _ _ _ (passes (c .before .before .before)), search needs)
+code-of-requires c κs = (small _ _ _ _ (passes (c .before .before)), search needs)
 
 plain-answer-requires : tie.Need-plain-answer-requires
 plain-answer-requires c κs = search needs
 
 returns-2 : tie.Need-returns-2
 returns-2 c =
-    let a = c .before .before .before .before .before .before .before .before .before .before .before .before .args in
-    too-many _ _ _ _ (passes (c .before .before .before .before .before .before)) _ _ (c .before .before .before .before .before .marks-of .ensures) (c .before .before .before .before .mark-lost .ensures) _ (sym (c .before .before .code-of .ensures) ∙ c .before .if2 .taken) (c .plain-answer .ensures) (Repairs (base (a .blocks)) (whole (call-flags (a .blocks) (a .flags) (now (a .image)))) (now (a .image)) (now (a .out)))
+    let a = c .before .before .before .before .before .before .before .before .before .before .before .args in
+    too-many _ _ _ _ (passes (c .before .before .before .before .before)) _ (c .before .before .before .before .call-marks .ensures) _ (sym (c .before .before .code-of .ensures) ∙ c .before .if2 .taken) (c .plain-answer .ensures) (Repairs (base (a .blocks)) (whole (call-flags (a .blocks) (a .flags) (now (a .image)))) (now (a .image)) (now (a .out)))
 
 mul-repair-record-2 : tie.Need-mul-repair-record-2
 mul-repair-record-2 c = search needs
@@ -67,21 +64,21 @@ mul-repair-record-3 : tie.Need-mul-repair-record-3
 mul-repair-record-3 c = search needs
 
 slice-relend-prefix-repair-record : tie.Need-slice-relend-prefix-repair-record
-slice-relend-prefix-repair-record c = has-room _ _ _ _ (passes (c .before .before .before .before .before))
+slice-relend-prefix-repair-record c = has-room _ _ _ _ (passes (c .before .before .before .before))
 
 slice-aggregate-repair-record : tie.Need-slice-aggregate-repair-record
-slice-aggregate-repair-record c = sym (length-take-le _ _ (has-room _ _ _ _ (passes (c .before .before .before .before .before .before))))
+slice-aggregate-repair-record c = sym (length-take-le _ _ (has-room _ _ _ _ (passes (c .before .before .before .before .before))))
 
 repair-record-requires : tie.Need-repair-record-requires
 repair-record-requires c κs =
-    let p = passes (c .before .before .before .before .before .before) in
-    (given _ _ _ _ p _ _ (c .before .before .before .before .before .marks-of .ensures) (c .before .before .before .before .mark-lost .ensures) (coded (c .before)), c .before .before .before .before .before .before .before .before .before .check .ensures .1 (c .before .before .before .before .before .before .if1 .left))
+    let e = c .before .before .before .before .before in
+    (given _ _ _ _ (passes e) _ (c .before .before .before .before .call-marks .ensures) (coded (c .before)), e .before .before .before .check .ensures .1 (e .if1 .left))
 
 same-length : tie.Need-same-length
 same-length c = search needs
 
 returns-3 : tie.Need-returns-3
-returns-3 c = repaired _ _ _ _ (passes (c .before .before .before .before .before .before .before .before .before)) _ _ (c .before .before .before .before .before .before .before .before .marks-of .ensures) (c .before .before .before .before .before .before .before .mark-lost .ensures) _ (coded (c .before .before .before .before)) _ (c .before .before .repair-record .kept .1 .1 .1 .0) (c .before .before .repair-record .ensures)
+returns-3 c = repaired _ _ _ _ (passes (c .before .before .before .before .before .before .before .before)) _ (c .before .before .before .before .before .before .before .call-marks .ensures) _ (coded (c .before .before .before .before)) _ (c .before .before .repair-record .kept .1 .1 .1 .0) (c .before .before .repair-record .ensures)
 
 pub repair-spec : {M : Type 1} → statement M
 repair-spec =
@@ -90,8 +87,7 @@ repair-spec =
     check-requires
     returns
     mul-repair-record
-    marks-of-requires
-    mark-lost-requires
+    call-marks-requires
     slice-aggregate-code-of
     code-of-requires
     plain-answer-requires

@@ -48,7 +48,7 @@ slice-aggregate-answer-of c = search needs
 answer-of-requires : tie.Need-answer-of-requires
 answer-of-requires c κs =
     let p = c .before .before .before .before .before .before .before .before .before .before .before .before .before .before .before .before .before .before .before .before .before .before .before .pre .0 in
-    (worked-only _ _ _ _ p _ _ (c .before .before .before .before .before .before .work .ensures) (c .before .before .if1 .taken), record { small = p .small; in-a = omega arith; in-b = omega arith })
+    worked-only _ _ _ _ p _ _ (c .before .before .before .before .before .before .work .ensures) (c .before .before .if1 .taken)
 
 same-length : tie.Need-same-length
 same-length c = search needs

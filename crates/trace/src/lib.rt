@@ -1,0 +1,281 @@
+// Tracer: the choices of extra tracks that a reach allows, one after the other.
+use code::Answer;
+use code::Extra;
+use code::Reach;
+use code::Sizes;
+use code::plain_answer;
+ghost use mathlib.Core.Path.{_≡_};
+ghost use Prim.Native.Nat.{_+_, _≤_, min};
+ghost use lib.ListN.{length};
+ghost use Rattle.code.specs.Reach.{code-reach, table-reach, size, ceiling-reach, both};
+ghost use Rattle.code.specs.Calls.{Traces};
+ghost use Rattle.code.specs.Contracts.{Traced, TracedWithin};
+ghost use Rattle.code.specs.Answers.{extra-of, result-of};
+ghost use Rattle.code.specs.Sizes.{shape};
+ghost use Rattle.code.proofs.Reaches.{Below};
+ghost use Rattle.track.specs.Track.{Readings, known};
+ghost use Rattle.checks.specs.Lost.{LostTold};
+ghost use Rattle.solver.specs.Solver.{marked};
+ghost use Rattle.changes.specs.Changes.{OnlyMarked};
+ghost use Rattle.repair.specs.Steps.{Given};
+ghost use Rattle.trace.specs.Steps.{HasExtra, named-at, extra-at, choice-at, IsChoice, OneMore, Widened, Free, Allows, Traceable, Tried, Searched, mended-at};
+
+// ---- What is allowed
+
+// The extras that a code allows in A, in B and in all.
+pub const MOST_A: [usize; 6] = [0, 0, 1, 0, 1, 1];
+
+pub const MOST_B: [usize; 6] = [0, 0, 0, 1, 1, 1];
+
+pub const MOST: [usize; 6] = [0, 0, 1, 1, 1, 2];
+
+// The smaller of two numbers.
+fn least(x: usize, y: usize) -> usize
+    ensures { λ r. ⌜ r ≡ min x y ⌝ }
+{
+    if x < y { x } else { y }
+}
+
+// What a code and a ceiling both allow.
+fn reach_within(code: u8, ceiling: usize) -> Reach
+    requires { ⌜ code ≤ 5 ⌝ }
+    ensures { λ r. ⌜ r ≡ both (code-reach code) (ceiling-reach ceiling) ⌝ }
+{
+    let k = code as usize;
+    Reach {
+        a: least(MOST_A[k], ceiling),
+        b: least(MOST_B[k], ceiling),
+        all: least(MOST[k], ceiling),
+    }
+}
+
+// ---- Choices of extras
+
+// A choice that fits, where one was found: 0 for no extra, t + 1 for track t.
+pub struct Hit {
+    pub found: bool,
+    pub a: usize,
+    pub b: usize,
+}
+
+// The marks and that of an extra: 0 for none, t + 1 for track t of the set whose first track has number `first`.
+fn one_more(marks: [u8; 18], first: usize, e: usize) -> [u8; 18]
+    requires { ⌜ length marks ≡ 18 ⌝ }
+    requires { ⌜ first + e ≤ 18 ⌝ }
+    ensures { λ r. ⌜ OneMore first e marks r ⌝ }
+{
+    let mut wide = marks;
+    if 0 < e {
+        wide[first + (e - 1)] = 1;
+    }
+    wide
+}
+
+// The marks with the extras of a choice.
+fn widen(z: Sizes, marks: [u8; 18], a: usize, b: usize) -> [u8; 18]
+    requires { ⌜ length marks ≡ 18 ⌝ }
+    requires { ⌜ IsChoice z a b ⌝ }
+    ensures { λ r. ⌜ Widened (shape z) marks (choice-at a b) r ⌝ }
+{
+    one_more(one_more(marks, 0, a), z.t1 + 2, b)
+}
+
+// The extras that a number stands for: one, or none.
+fn size_of(e: usize) -> usize
+    ensures { λ r. ⌜ r ≡ size (extra-at e) ⌝ }
+{
+    if e == 0 { 0 } else { 1 }
+}
+
+// Is an extra none, or a track without a mark?
+fn is_free(marks: [u8; 18], first: usize, e: usize) -> bool
+    requires { ⌜ first + e ≤ 18 ⌝ }
+    ensures { λ r. ⌜ Free first e marks r ⌝ }
+{
+    if e == 0 {
+        return true;
+    }
+    marks[first + (e - 1)] != 1
+}
+
+// Does the reach allow a choice, and are its extras unflagged tracks?
+fn allows(z: Sizes, w: Reach, marks: [u8; 18], a: usize, b: usize) -> bool
+    requires { ⌜ IsChoice z a b ⌝ }
+    ensures { λ r. ⌜ Allows (shape z) w (marked (shape z) marks) (choice-at a b) r ⌝ }
+{
+    let in_a = size_of(a);
+    let in_b = size_of(b);
+    if w.a < in_a {
+        return false;
+    }
+    if w.b < in_b {
+        return false;
+    }
+    if w.all < in_a + in_b {
+        return false;
+    }
+    if !is_free(marks, 0, a) {
+        return false;
+    }
+    is_free(marks, z.t1 + 2, b)
+}
+
+// ---- What is named
+
+// The extra that is named: a track that was changed.
+fn named(image: &[u8], out: &[u8], l: usize, first: usize, e: usize) -> Extra
+    requires { ⌜ HasExtra l first e (now image) (now out) ⌝ }
+    ensures { λ r. ⌜ extra-of r ≡ named-at l (now (image .entry)) (now (out .entry)) first e ⌝ }
+{
+    if e == 0 {
+        return Extra::None;
+    }
+    let g = first + (e - 1);
+    if changes::count_track(image, out, l, g) == 0 {
+        return Extra::None;
+    }
+    Extra::Track(g as u32)
+}
+
+// The answer 0 with what was changed, where marked tracks alone were. The extras of a choice are named.
+fn answer_with(z: Sizes, marks: &[u8], image: &[u8], out: &[u8], a: usize, b: usize) -> Answer
+    requires { ⌜ OnlyMarked z (now marks) (now image) (now out) ⌝ }
+    requires { ⌜ IsChoice z a b ⌝ }
+    ensures { λ r. ⌜ result-of r ≡ mended-at (shape z) (now (image .entry)) (now (out .entry)) a b ⌝ }
+{
+    let l = z.positions + (z.t1 + z.t2 + 1);
+    let in_a = named(image, out, l, 0, a);
+    let in_b = named(image, out, l, z.t1 + 2, b);
+    repair::answer_of(z, marks, image, out, in_a, in_b)
+}
+
+// ---- Tracing
+
+// Tries one choice of extras, from a copy of the image's syndromes.
+fn try_choice(
+    z: Sizes,
+    w: Reach,
+    marks: [u8; 18],
+    image: &[u8],
+    out: &mut [u8],
+    first: &[u8],
+    syn: &mut [u8],
+    a: usize,
+    b: usize,
+) -> bool
+    requires { ⌜ Traceable z w marks (known (now image)) (now first) ⌝ }
+    requires { ⌜ now out ≡ known (now image) ⌝ }
+    requires { ⌜ length (now syn) ≡ length (now first) ⌝ }
+    requires { ⌜ IsChoice z a b ⌝ }
+    requires { ⌜ Readings (now image) ⌝ }
+    ensures { λ r. ⌜ Tried (shape z) w (marked (shape z) marks) (known (now (image .entry))) (choice-at a b) (now (out .exit)) r ⌝ }
+{
+    if !allows(z, w, marks, a, b) {
+        return false;
+    }
+    let wide = widen(z, marks, a, b);
+    track::copy_into(syn, first);
+    repair::work(z, &wide, image, out, syn)
+}
+
+// Tries the choices one after the other, up to one that fits.
+fn search(
+    z: Sizes,
+    w: Reach,
+    marks: [u8; 18],
+    image: &[u8],
+    out: &mut [u8],
+    first: &[u8],
+    syn: &mut [u8],
+) -> Hit
+    requires { ⌜ Traceable z w marks (known (now image)) (now first) ⌝ }
+    requires { ⌜ now out ≡ known (now image) ⌝ }
+    requires { ⌜ length (now syn) ≡ length (now first) ⌝ }
+    requires { ⌜ Readings (now image) ⌝ }
+    ensures { λ r. ⌜ Searched z w (marked (shape z) marks) (known (now (image .entry))) (now (out .exit)) r ⌝ }
+{
+    let in_a = z.t1 + 2;
+    let in_b = z.t2 + 2;
+    let mut found = false;
+    let mut a = 0;
+    let mut b = 0;
+    'search: while a <= in_a {
+        b = 0;
+        while b <= in_b {
+            if try_choice(z, w, marks, image, out, first, syn, a, b) {
+                found = true;
+                break 'search;
+            }
+            b += 1;
+        }
+        a += 1;
+    }
+    Hit { found, a, b }
+}
+
+// Traces into the output, of the image's size.
+fn trace_record(
+    z: Sizes,
+    w: Reach,
+    marks: [u8; 18],
+    image: &[u8],
+    out: &mut [u8],
+    lost: bool,
+) -> Answer
+    requires { ⌜ Given z marks (now image) (now out) ⌝ }
+    requires { ⌜ Below w (table-reach (shape z) (marked (shape z) marks)) ⌝ }
+    requires { ⌜ LostTold (now image) lost ⌝ }
+    ensures { λ r. ⌜ Traces (shape z) w (marked (shape z) marks) (now (image .entry)) (now (out .entry)) (result-of r) (now (out .exit)) ⌝ }
+{
+    let l = z.positions + (z.t1 + z.t2 + 1);
+    track::copy_known(out, image);
+    let mut room = [0u8; 8252];
+    let mut spare = [0u8; 8252];
+    let first = &mut room[..4 * l];
+    let syn = &mut spare[..4 * l];
+    syndrome::syndromes(out, z, first);
+    let hit = search(z, w, marks, image, out, first, syn);
+    if !hit.found {
+        repair::put_back(image, out, lost);
+        return plain_answer(7, 0);
+    }
+    let wide = widen(z, marks, hit.a, hit.b);
+    answer_with(z, &wide, image, out, hit.a, hit.b)
+}
+
+// ---- The calls
+
+// Tracer with a ceiling: the same as the repairer with extra tracks that are not flagged, as many as the code of the flags and the
+// ceiling both allow.
+pub fn trace_within(blocks: u32, flags: u32, ceiling: u32, image: &[u8], out: &mut [u8]) -> Answer
+    ensures { λ r. ⌜ TracedWithin blocks flags ceiling (now (image .entry)) (now (out .entry)) (result-of r) (now (out .exit)) ⌝ }
+{
+    let seen = repair::check(blocks, flags, image, out.len());
+    let refused = seen.answer;
+    if refused.number != 0 {
+        return plain_answer(refused.number, refused.detail);
+    }
+    let n = blocks as usize;
+    let z = Sizes {
+        t1: 7,
+        t2: 7,
+        positions: 8 * n,
+    };
+    let marks = flags::call_marks(z, flags, image, seen.lost);
+    let code = flags::code_of(z, &marks);
+    if 2 < ceiling {
+        return plain_answer(12, 0);
+    }
+    if code == 0 {
+        return plain_answer(6, 0);
+    }
+    let w = reach_within(code, ceiling as usize);
+    trace_record(z, w, marks, image, &mut out[..18 * (8 * n + 15)], seen.lost)
+}
+
+// Tracer: with code 4 in place of 5, which is one extra track in all at the most.
+pub fn trace(blocks: u32, flags: u32, image: &[u8], out: &mut [u8]) -> Answer
+    ensures { λ r. ⌜ Traced blocks flags (now (image .entry)) (now (out .entry)) (result-of r) (now (out .exit)) ⌝ }
+{
+    trace_within(blocks, flags, 1, image, out)
+}
