@@ -36,7 +36,7 @@ build/libaxp.a: $(SOURCES) | build
 	rt staticlib axp_c
 	cp target/staticlib/libaxp_c.a $@
 
-# The archive's ten calls, as a shared library.
+# The archive's eleven calls, as a shared library.
 build/$(SHARED): build/libaxp.a include/axp.h
 	$(CC) -shared -Wl,-soname,$(SONAME) -Wl,-z,defs -o $@ -Wl,--whole-archive build/libaxp.a -Wl,--no-whole-archive
 

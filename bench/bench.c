@@ -33,10 +33,10 @@ enum { SET = AXP_TRACKS / 2, ROOM = AXP_MAX_FILE_SIZE + 64, ROWS = 23 };
 /* The runs of each, spread over some passes over all cases, so that a slow spell of the machine falls on no case alone. */
 enum { PASSES = 20, RUNS = 160 };
 
-/* An input: flags or a table of spans, memory of its own where it has any, and what is right: the bytes at the start of the output,
- * and the answer. */
+/* An input: flags and a ceiling, or a table of spans, memory of its own where it has any, and what is right: the bytes at the start of
+ * the output, and the answer. */
 struct input {
-    uint32_t flags;
+    uint32_t flags, ceiling;
     const uint8_t *bytes;
     uint8_t *memory;
     const uint8_t *result;
@@ -77,10 +77,10 @@ static _Alignas(4096) uint8_t library_out[ROOM];
 static _Alignas(4096) uint8_t plain_out[ROOM];
 static volatile uint32_t sink;
 
-/* An input without a table. */
+/* An input without a table. Its ceiling is 2. */
 static struct input plain_input(uint32_t flags, const uint8_t *bytes, uint8_t *memory, const uint8_t *result, axp_result answer)
 {
-    struct input x = {.flags = flags, .bytes = bytes, .memory = memory, .result = result, .answer = answer};
+    struct input x = {.flags = flags, .ceiling = AXP_MAX_CEILING, .bytes = bytes, .memory = memory, .result = result, .answer = answer};
     return x;
 }
 
@@ -119,6 +119,7 @@ CALL(encode, n, x->bytes, len, out, out_len)
 CALL(read, n, x->bytes, len, out, out_len)
 CALL(repair, n, x->flags, x->bytes, len, out, out_len)
 CALL(trace, n, x->flags, x->bytes, len, out, out_len)
+CALL(trace_within, n, x->flags, x->ceiling, x->bytes, len, out, out_len)
 CALL(repair_spans, n, x->spans, x->span_count, x->bytes, len, out, out_len)
 CALL(pack, n, x->bytes, len, out, out_len)
 CALL(unpack, n, x->bytes, len, out, out_len)
@@ -402,7 +403,7 @@ static void last_data_cell(uint8_t *track, size_t l)
     track[blocks > 0 ? 8 * blocks - 1 : l - 1] ^= 1;
 }
 
-/* What repair and tracing answer where an image is to become a record: which tracks differ, flagged or not, and the cells. */
+/* What repairers and tracers answer where an image is to become a record: which tracks differ, flagged or not, and the cells. */
 static axp_result changes(const uint8_t *image, const uint8_t *record, uint32_t flags)
 {
     size_t l = AXP_TRACK_LENGTH(blocks);
@@ -494,6 +495,25 @@ static void add_damaged(const char *name, call library, call plain, uint32_t (*t
                 damage(image + g * l, l);
         row->inputs[i] = meaning(image, records[i], damaged);
     }
+}
+
+/* Compared and not timed: a wrong track in each set, by ceilings 0 to 3, which are too low, too low, just right and none. */
+static void compare_ceilings(const char *name)
+{
+    struct row *row;
+    add_damaged(name, library_trace_within, c_trace_within, one_and_one, noise, unknown);
+    row = &rows[row_count - 1];
+    for (int i = 0; i < input_count; i++) {
+        struct input *x = &row->inputs[i];
+        x->ceiling = (uint32_t)i % 4;
+        if (x->ceiling == 2)
+            continue;
+        x->answer = unchanged;
+        x->answer.answer = x->ceiling < 2 ? AXP_NO_RECORD : AXP_CEILING;
+        x->result = x->ceiling < 2 ? x->bytes : pattern;
+    }
+    compare(row);
+    free_row();
 }
 
 /* Flagged stretches of an image: some cells of one track, in order of the cells. Each is a pair of the table. */
@@ -792,9 +812,11 @@ static void all(uint32_t n)
     add_spans("spans: 64 short stretches", short_stretches);
     add_damaged("trace a clean record", library_trace, c_trace, no_track, noise, unknown);
     add_damaged("trace one unknown track", library_trace, c_trace, one_track, noise, unknown);
-    add_damaged("trace two unknown tracks", library_trace, c_trace, one_and_one, noise, unknown);
-    add_damaged("trace two unknown tracks, the last", library_trace, c_trace, last_choice, noise, unknown);
+    add_damaged("trace two unknown tracks, ceiling 2", library_trace_within, c_trace_within, one_and_one, noise, unknown);
+    add_damaged("trace the last two tracks, ceiling 2", library_trace_within, c_trace_within, last_choice, noise, unknown);
     add_damaged("trace to 7, errors at the very end", library_trace, c_trace, two_of_a_set, last_data_cell, out_of_reach);
+    add_damaged("trace to 7, errors at end, ceiling 2", library_trace_within, c_trace_within, two_of_a_set, last_data_cell, out_of_reach);
+    compare_ceilings("trace by each ceiling");
     add_pack("pack");
     add_unpack("unpack");
     compare_padding("unpack to 8");

@@ -623,7 +623,7 @@ axp_result plain_unpack(uint32_t blocks, const uint8_t *restrict packed, size_t 
 /* ---- flags */
 
 /* The code of a flagged tracks in set A and b in set B, a by row and b along it. */
-static const uint8_t reach[10][10] = {
+static const uint8_t codes[10][10] = {
     {5, 4, 2, 1}, {4, 4, 1, 1}, {3, 1, 1}, {1, 1},
 };
 
@@ -654,7 +654,7 @@ static size_t count_marks(const uint8_t *marks, size_t n)
 
 static uint8_t code_of(const uint8_t marks[ALL])
 {
-    return reach[count_marks(marks, TRACKS)][count_marks(marks + TRACKS, TRACKS)];
+    return codes[count_marks(marks, TRACKS)][count_marks(marks + TRACKS, TRACKS)];
 }
 
 /* ---- changed cells */
@@ -738,12 +738,27 @@ axp_result plain_repair(uint32_t blocks, uint32_t flags, const uint8_t *restrict
     return answer(7, 0);
 }
 
-/* ---- tracer */
+/* ---- tracers */
 
 /* The extras that a code allows in A, in B and in all. */
 static const uint8_t most_a[6] = {0, 0, 1, 0, 1, 1};
 static const uint8_t most_b[6] = {0, 0, 0, 1, 1, 1};
 static const uint8_t most[6] = {0, 0, 1, 1, 1, 2};
+
+/* The extras that a code and a ceiling both allow in A, in B and in all. */
+struct reach {
+    uint32_t a, b, all;
+};
+
+static inline uint32_t lower(uint32_t x, uint32_t y)
+{
+    return x < y ? x : y;
+}
+
+static struct reach reach_of(uint8_t code, uint32_t ceiling)
+{
+    return (struct reach){lower(most_a[code], ceiling), lower(most_b[code], ceiling), lower(most[code], ceiling)};
+}
 
 /* The marks with the extras of a choice: 0 for none, t + 1 for track t. */
 static void widen(const uint8_t marks[ALL], size_t a, size_t b, uint8_t wide[ALL])
@@ -761,23 +776,25 @@ static inline bool is_free(const uint8_t *marks, size_t e)
     return e == 0 || marks[e - 1] != 1;
 }
 
-/* Does the code allow a choice, and are its extras unflagged tracks? */
-static bool allows(uint8_t code, const uint8_t marks[ALL], size_t a, size_t b)
+/* Does a reach allow a choice, and are its extras unflagged tracks? */
+static bool allows(struct reach reach, const uint8_t marks[ALL], size_t a, size_t b)
 {
-    size_t in_a = a != 0, in_b = b != 0;
-    if (most_a[code] < in_a || most_b[code] < in_b || most[code] < in_a + in_b)
+    uint32_t in_a = a != 0, in_b = b != 0;
+    if (reach.a < in_a || reach.b < in_b || reach.all < in_a + in_b)
         return false;
     return is_free(marks, a) && is_free(marks + TRACKS, b);
 }
 
-axp_result plain_trace(uint32_t blocks, uint32_t flags, const uint8_t *restrict image, size_t image_len, uint8_t *restrict out,
-                       size_t out_len)
+axp_result plain_trace_within(uint32_t blocks, uint32_t flags, uint32_t ceiling, const uint8_t *restrict image, size_t image_len,
+                              uint8_t *restrict out, size_t out_len)
 {
     uint8_t marks[ALL], wide[ALL], first[ROOM], syn[ROOM];
     bool lost;
     axp_result r = check(blocks, flags, image, image_len, out_len, &lost);
     if (r.answer)
         return r;
+    if (ceiling > AXP_MAX_CEILING)
+        return answer(12, 0);
     size_t l = AXP_TRACK_LENGTH(blocks);
     marks_of(flags, marks);
     if (lost)
@@ -785,11 +802,12 @@ axp_result plain_trace(uint32_t blocks, uint32_t flags, const uint8_t *restrict 
     uint8_t code = code_of(marks);
     if (code == 0)
         return answer(6, 0);
+    struct reach reach = reach_of(code, ceiling);
     copy_known(out, image, image_len, lost);
     syndromes(out, l, first);
     for (size_t a = 0; a <= TRACKS; a++)
         for (size_t b = 0; b <= TRACKS; b++) {
-            if (!allows(code, marks, a, b))
+            if (!allows(reach, marks, a, b))
                 continue;
             widen(marks, a, b, wide);
             memcpy(syn, first, 4 * l);
@@ -798,6 +816,13 @@ axp_result plain_trace(uint32_t blocks, uint32_t flags, const uint8_t *restrict 
         }
     put_back(image, out, image_len, lost);
     return answer(7, 0);
+}
+
+/* One extra in all. */
+axp_result plain_trace(uint32_t blocks, uint32_t flags, const uint8_t *restrict image, size_t image_len, uint8_t *restrict out,
+                       size_t out_len)
+{
+    return plain_trace_within(blocks, flags, 1, image, image_len, out, out_len);
 }
 
 /* ---- repairer with flags by stretch */

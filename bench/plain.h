@@ -11,6 +11,8 @@ axp_result plain_encode(uint32_t blocks, const uint8_t *payload, size_t payload_
 axp_result plain_read(uint32_t blocks, const uint8_t *image, size_t image_len, uint8_t *out, size_t out_len);
 axp_result plain_repair(uint32_t blocks, uint32_t flags, const uint8_t *image, size_t image_len, uint8_t *out, size_t out_len);
 axp_result plain_trace(uint32_t blocks, uint32_t flags, const uint8_t *image, size_t image_len, uint8_t *out, size_t out_len);
+axp_result plain_trace_within(uint32_t blocks, uint32_t flags, uint32_t ceiling, const uint8_t *image, size_t image_len, uint8_t *out,
+                              size_t out_len);
 axp_result plain_repair_spans(uint32_t blocks, const axp_span *spans, size_t spans_len, const uint8_t *image, size_t image_len, uint8_t *out,
                               size_t out_len);
 axp_result plain_pack(uint32_t blocks, const uint8_t *image, size_t image_len, uint8_t *out, size_t out_len);

@@ -1,8 +1,8 @@
 /*
  * axp.h - repair of 18-track cartridge records in the adaptive cross-parity code
  *
- * Ten calls on numbers and slices: an encoder, a reader of good records, a repairer for flagged
- * tracks, a tracer for unflagged ones, a repairer for flagged stretches of cells, two calls that turn
+ * Eleven calls on numbers and slices: an encoder, a reader of good records, a repairer for flagged
+ * tracks, two tracers for unflagged ones, a repairer for flagged stretches of cells, two calls that turn
  * an image to its packed form and back, and three that write a cartridge file, count its entries and
  * find one of them. Each call always returns, allocates nothing, keeps no state between calls and reads
  * and writes nothing but the slices that it is given, so it may be called from any number of threads at
@@ -10,8 +10,8 @@
  *
  * What a call answers and every byte that it leaves in the output are fixed by the project's
  * documents 01 and 02 and proved of the code behind axp_encode, axp_read, axp_repair, axp_trace,
- * axp_repair_spans, axp_pack, axp_unpack, axp_file_write, axp_file_count and axp_file_entry. The static
- * inline functions of this header are conveniences and no proved code.
+ * axp_trace_within, axp_repair_spans, axp_pack, axp_unpack, axp_file_write, axp_file_count and
+ * axp_file_entry. The static inline functions of this header are conveniences and no proved code.
  *
  * A record has n blocks, n from 0 to 256, and 18 tracks of L = 8n + 15 cells: tracks 0 to 8 of set A,
  * then tracks 0 to 8 of set B. Its image is 18 * L bytes, one cell a byte, value 0 or 1; track number
@@ -21,10 +21,10 @@
  * A record of no blocks (n = 0) is its tail alone: 15 cells a track, 270 in all, an empty payload and
  * 36 bytes packed. Its only good record is all zero. Every call takes it as it takes the others.
  *
- * A cell that a drive could not read is marked with 2 (AXP_LOST). Repairer and tracer take the track of
- * a lost cell as flagged, as if its bit of the flag word were set, and fill the cell; axp_repair_spans
- * takes the lost cell alone as flagged, not its track; the reader takes an image with a lost cell as not
- * good; a lost cell cannot be packed.
+ * A cell that a drive could not read is marked with 2 (AXP_LOST). axp_repair, axp_trace and
+ * axp_trace_within take the track of a lost cell as flagged, as if its bit of the flag word were set, and
+ * fill the cell; axp_repair_spans takes the lost cell alone as flagged, not its track; the reader takes
+ * an image with a lost cell as not good; a lost cell cannot be packed.
  *
  * An image's packed form is 18 * (n + 2) bytes, its tracks in head order, A0, B0, A1, B1, to A8, B8:
  * track t of A begins at byte 2t * (n + 2), track t of B at byte (2t + 1) * (n + 2). A track takes
@@ -65,7 +65,7 @@ extern "C" {
 
 /* The version of this header and of the library that it was made for. */
 #define AXP_VERSION_MAJOR 0
-#define AXP_VERSION_MINOR 6
+#define AXP_VERSION_MINOR 7
 #define AXP_VERSION_PATCH 0
 
 /* The most blocks of a record. */
@@ -98,16 +98,20 @@ extern "C" {
 /* The most pairs of a table of spans. */
 #define AXP_MAX_SPANS 64
 
+/* The highest ceiling of axp_trace_within. */
+#define AXP_MAX_CEILING 2
+
 /* `extra_a` or `extra_b` where no extra track is named. */
 #define AXP_NO_EXTRA 4294967295u
 
 /*
  * The answers, in checking order: the first whose condition holds is given, and AXP_OK where none
- * does; axp_repair_spans checks 9 in place of 5, after 4 and before 6. The encoder gives AXP_OK and 1 to
- * 3, the reader AXP_OK, 1 to 4 and 7, repairer and tracer AXP_OK and 1 to 7, axp_repair_spans AXP_OK, 1
- * to 4, 9, 6 and 7, packing AXP_OK and 1 to 4, unpacking AXP_OK, 1 to 3 and 8. axp_file_write goes entry
- * by entry, and gives AXP_OK, 1, 2, 8 and, last, 11; axp_file_count and axp_file_entry give AXP_OK and
- * 10.
+ * does; axp_repair_spans checks 9 in place of 5, after 4 and before 6, and axp_trace_within checks 12
+ * after 5 and before 6. The encoder gives AXP_OK and 1 to 3, the reader AXP_OK, 1 to 4 and 7, axp_repair
+ * and axp_trace AXP_OK and 1 to 7, axp_trace_within AXP_OK, 1 to 5, 12, 6 and 7, axp_repair_spans AXP_OK,
+ * 1 to 4, 9, 6 and 7, packing AXP_OK and 1 to 4, unpacking AXP_OK, 1 to 3 and 8. axp_file_write goes
+ * entry by entry, and gives AXP_OK, 1, 2, 8 and, last, 11; axp_file_count and axp_file_entry give AXP_OK
+ * and 10.
  */
 enum axp_answer {
     AXP_OK = 0,          /* the result fills the first bytes of the output; later bytes stay */
@@ -117,7 +121,7 @@ enum axp_answer {
                             many entries (axp_file_write) */
     AXP_OUTPUT_SHORT = 3,/* the output is shorter than a payload (reader), a packed form (packing) or an
                             image (the others) of that block count */
-    AXP_CELL_VALUE = 4,  /* the image has a cell above 2 (reader, repairers, tracer) or above 1
+    AXP_CELL_VALUE = 4,  /* the image has a cell above 2 (reader, repairers, tracers) or above 1
                             (packing), flagged or not; `detail` is the index of the first one */
     AXP_FLAG_BIT = 5,    /* the flag word has a bit from 18 up */
     AXP_TOO_MANY = 6,    /* more flagged tracks, with those that have a lost cell, than the code can
@@ -129,7 +133,8 @@ enum axp_answer {
                             image, or an offset before the previous pair's end */
     AXP_DAMAGED_FILE = 10,/* the file, its directory or an entry's length or count breaks the rules of a
                             cartridge file */
-    AXP_NO_ROOM = 11     /* more than 64 entries, or they do not fit a file of 65,536 bytes or the output */
+    AXP_NO_ROOM = 11,    /* more than 64 entries, or they do not fit a file of 65,536 bytes or the output */
+    AXP_CEILING = 12     /* the ceiling is above 2 */
 };
 
 /*
@@ -137,13 +142,13 @@ enum axp_answer {
  *
  * answer   0 or a number of enum axp_answer.
  * detail   with AXP_CELL_VALUE the index of the first bad cell in the image, else 0.
- * mask     from the repairers and tracing with answer 0: bit g is set exactly if some cell of track
- *          number g differs between output and image. Else 0.
- * cells    from the repairers and tracing with answer 0: the number of cells that differ. Else 0. A
- *          lost cell is 2 in the image and 0 or 1 in the output: it differs, whichever it becomes.
- * extra_a, from tracing with answer 0: the track number (0 to 8 in A, 9 to 17 in B) of the changed
- * extra_b  track of the set that was not flagged and has no lost cell, or AXP_NO_EXTRA where there is
- *          none. Else AXP_NO_EXTRA.
+ * mask     from repairers and tracers with answer 0: bit g is set exactly if some cell of track number
+ *          g differs between output and image. Else 0.
+ * cells    from repairers and tracers with answer 0: the number of cells that differ. Else 0. A lost
+ *          cell is 2 in the image and 0 or 1 in the output: it differs, whichever it becomes.
+ * extra_a, from axp_trace and axp_trace_within with answer 0: the track number (0 to 8 in A, 9 to 17 in
+ * extra_b  B) of the changed track of the set that was not flagged and has no lost cell, or AXP_NO_EXTRA
+ *          where there is none. Else AXP_NO_EXTRA.
  */
 typedef struct axp_result {
     uint32_t answer;
@@ -194,11 +199,11 @@ typedef struct axp_stretch {
  *
  * The caller sees to it that each pointer is valid for its length (a null pointer may stand with
  * length 0), that input and output do not overlap, and that no other thread writes to either during
- * the call. Nothing else is presumed: every block count, length, cell value, flag word, table, number of
- * entries, file and index has an answer.
+ * the call. Nothing else is presumed: every block count, length, cell value, flag word, ceiling, table,
+ * number of entries, file and index has an answer.
  *
- * Answers 1 to 6, 8, 9 and 11 leave the output as it came. Bytes of the output past the result stay as
- * they came with every answer.
+ * Answers 1 to 6, 8, 9, 11 and 12 leave the output as it came. Bytes of the output past the result stay
+ * as they came with every answer.
  */
 
 /*
@@ -241,22 +246,54 @@ axp_result axp_read(uint32_t blocks, const uint8_t *image, size_t image_len, uin
 axp_result axp_repair(uint32_t blocks, uint32_t flags, const uint8_t *image, size_t image_len, uint8_t *out, size_t out_len);
 
 /*
- * Repairs the flagged tracks of an image, and extra tracks that were not flagged.
+ * Repairs the flagged tracks of an image, and up to one extra track that was not flagged.
+ *
+ * The flags allow so many extra tracks (flagged tracks in A, in B, those with a lost cell among them:
+ * extras):
+ *     0,0 and 1,0 and 0,1 and 1,1: one in all; 2,0: one in B; 0,2: one in A;
+ *     any other pair that is repaired: none.
+ * Without flags and lost cells, a wrong track in each set is out of reach of this call; axp_trace_within
+ * with ceiling 2 reaches it.
+ *
+ * flags, image   as in axp_repair.
+ * out      with answer 0 its first AXP_IMAGE_SIZE(blocks) bytes are the one good record that differs
+ *          from the image only in flagged tracks and in an extra track so allowed; there is no other.
+ *          With AXP_NO_RECORD, given exactly if there is no such record, they are a copy of the image,
+ *          its lost cells among them.
+ *
+ * The call answers and writes what axp_trace_within does with ceiling 1.
+ *
+ * Answers: AXP_OK and 1 to 7.
+ */
+axp_result axp_trace(uint32_t blocks, uint32_t flags, const uint8_t *image, size_t image_len, uint8_t *out, size_t out_len);
+
+/*
+ * Repairs the flagged tracks of an image, and extra tracks that were not flagged, as many as both the
+ * flags and a ceiling allow.
  *
  * The flags allow so many extra tracks (flagged tracks in A, in B, those with a lost cell among them:
  * extras):
  *     0,0: one in each set; 1,0 and 0,1 and 1,1: one in all; 2,0: one in B; 0,2: one in A;
  *     any other pair that is repaired: none.
  *
+ * ceiling  0: no extra track, whatever the flags; the call answers and writes what axp_repair does.
+ *          1: one in all, where the flags allow it; the call answers and writes what axp_trace does.
+ *          2 (AXP_MAX_CEILING): as the flags allow; the call answers and writes what axp_trace did before
+ *          version 0.7.
+ *          Any other is AXP_CEILING, given where none of 1 to 5 is; the output stays as it came.
  * flags, image   as in axp_repair.
  * out      with answer 0 its first AXP_IMAGE_SIZE(blocks) bytes are the one good record that differs
  *          from the image only in flagged tracks and in extra tracks so allowed; there is no other.
  *          With AXP_NO_RECORD, given exactly if there is no such record, they are a copy of the image,
  *          its lost cells among them.
  *
- * Answers: AXP_OK and 1 to 7.
+ * Where a ceiling has answer 0, each higher one up to 2 has it too, with every field of the result and
+ * every byte of the output the same.
+ *
+ * Answers: AXP_OK, AXP_BLOCK_COUNT, AXP_INPUT_LENGTH, AXP_OUTPUT_SHORT, AXP_CELL_VALUE, AXP_FLAG_BIT,
+ * AXP_CEILING, AXP_TOO_MANY, AXP_NO_RECORD, the numbers checked in this order.
  */
-axp_result axp_trace(uint32_t blocks, uint32_t flags, const uint8_t *image, size_t image_len, uint8_t *out, size_t out_len);
+axp_result axp_trace_within(uint32_t blocks, uint32_t flags, uint32_t ceiling, const uint8_t *image, size_t image_len, uint8_t *out, size_t out_len);
 
 /*
  * Repairs the flagged cells of an image, where a drive distrusted tracks for a while only.
@@ -348,8 +385,8 @@ axp_stretch axp_file_entry(const uint8_t *file, size_t file_len, uint32_t index)
 
 /*
  * The bit of track t of set A, or of set B, in a flag word or a mask: bit t, or bit 9 + t, for t from 0
- * to 8. Any other t gives bit 31, which is no track's: repair and tracing refuse a flag word that has it
- * with AXP_FLAG_BIT. Not proved code.
+ * to 8. Any other t gives bit 31, which is no track's: axp_repair, axp_trace and axp_trace_within refuse
+ * a flag word that has it with AXP_FLAG_BIT. Not proved code.
  */
 static inline uint32_t axp_flag_a(unsigned t) { return (uint32_t)1 << (t < 9 ? t : 31); }
 static inline uint32_t axp_flag_b(unsigned t) { return (uint32_t)1 << (t < 9 ? 9 + t : 31); }
@@ -378,6 +415,7 @@ static inline const char *axp_strerror(uint32_t answer)
     case AXP_SPANS: return "the table of spans is out of order";
     case AXP_DAMAGED_FILE: return "the file is no cartridge file";
     case AXP_NO_ROOM: return "the entries do not fit the file or the output";
+    case AXP_CEILING: return "the ceiling is above 2";
     default: return "unknown answer";
     }
 }
