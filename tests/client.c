@@ -198,6 +198,85 @@ static void stretches(uint32_t n, const uint8_t *image)
     expect(is_filled(out, 0, sizeof out, 0x55), "output of refused stretches");
 }
 
+/* What each ceiling gives: from ceiling `least` on the record, with what is found, and below it 7 with a copy. axp_repair is as ceiling 0,
+ * axp_trace as ceiling 1. */
+static void each_ceiling(uint32_t n, uint32_t flags, const uint8_t *cells, const uint8_t *record, uint32_t least, axp_result found, const char *what)
+{
+    static uint8_t out[AXP_MAX_IMAGE_SIZE + 8];
+    size_t size = AXP_IMAGE_SIZE(n);
+    uint32_t call, ceiling;
+    for (call = 0; call < 5; call++) {
+        axp_result r;
+        memset(out, 0x55, sizeof out);
+        ceiling = call < 3 ? call : call - 3;
+        if (call < 3)
+            r = axp_trace_within(n, flags, ceiling, cells, size, out, sizeof out);
+        else
+            r = (call == 3 ? axp_repair : axp_trace)(n, flags, cells, size, out, sizeof out);
+        if (ceiling < least)
+            expect(is_plain(r, AXP_NO_RECORD, 0) && memcmp(out, cells, size) == 0, what);
+        else
+            expect(is_found(r, found.mask, found.cells, found.extra_a, found.extra_b) && memcmp(out, record, size) == 0, what);
+        expect(is_filled(out, size, sizeof out, 0x55), "bytes past an image with a ceiling");
+    }
+}
+
+/* A record with more and more wrong tracks, by each ceiling, and the ceilings that are refused. */
+static void ceilings(uint32_t n, const uint8_t *image)
+{
+    static const uint32_t high[] = {AXP_MAX_CEILING + 1, 4, 255, 256, 257, 258, 65537, (uint32_t)1 << 31, 4294967295u};
+    static uint8_t cells[AXP_MAX_IMAGE_SIZE], out[AXP_MAX_IMAGE_SIZE + 8];
+    axp_result found = {AXP_OK, 0, 0, 0, AXP_NO_EXTRA, AXP_NO_EXTRA};
+    size_t l = AXP_TRACK_LENGTH(n), size = AXP_IMAGE_SIZE(n), i;
+    memcpy(cells, image, size);
+    each_ceiling(n, 0, cells, image, 0, found, "a good record with a ceiling");
+    cells[4 * l + l / 2] ^= 1;
+    found.mask = axp_flag_a(4);
+    found.cells = 1;
+    each_ceiling(n, axp_flag_a(4), cells, image, 0, found, "a flagged track with a ceiling");
+    found.extra_a = 4;
+    each_ceiling(n, 0, cells, image, 1, found, "a wrong track with a ceiling");
+    cells[9 * l] ^= 1;
+    cells[10 * l - 1] ^= 1;
+    found.mask |= axp_flag_b(0);
+    found.cells = 3;
+    found.extra_b = 9;
+    each_ceiling(n, 0, cells, image, 2, found, "a wrong track in each set with a ceiling");
+    found.extra_b = AXP_NO_EXTRA;
+    each_ceiling(n, axp_flag_b(0), cells, image, 1, found, "a wrong track beside a flag with a ceiling");
+    /* A lost cell flags its track: beside it one extra in all is allowed, with each ceiling but 0. */
+    cells[9 * l] = AXP_LOST;
+    each_ceiling(n, 0, cells, image, 1, found, "a wrong track beside a lost cell with a ceiling");
+    cells[11 * l] ^= 1;
+    each_ceiling(n, 0, cells, image, 3, found, "a wrong track in each set beside a lost cell");
+    memcpy(cells, image, size);
+    cells[1 * l] ^= 1;
+    cells[2 * l] ^= 1;
+    each_ceiling(n, 0, cells, image, 3, found, "two wrong tracks of a set with a ceiling");
+
+    /* A ceiling above 2 comes after 5 and before 6 and 7, and leaves the output as it came. */
+    memset(out, 0x55, sizeof out);
+    for (i = 0; i < sizeof high / sizeof *high; i++) {
+        expect(is_plain(axp_trace_within(n, 0, high[i], image, size, out, sizeof out), AXP_CEILING, 0), "a ceiling above 2");
+        expect(is_plain(axp_trace_within(n, 0, high[i], cells, size, out, size), AXP_CEILING, 0), "a ceiling above 2 before 7");
+        expect(is_plain(axp_trace_within(n, 15, high[i], cells, size, out, size), AXP_CEILING, 0), "a ceiling above 2 before 6");
+        expect(is_plain(axp_trace_within(n, axp_flag_b(9), high[i], cells, size, out, size), AXP_FLAG_BIT, 0), "5 before a ceiling above 2");
+        expect(is_plain(axp_trace_within(n, 0, high[i], cells, size, out, size - 1), AXP_OUTPUT_SHORT, 0), "3 before a ceiling above 2");
+        expect(is_plain(axp_trace_within(n, 0, high[i], cells, size - 1, out, 0), AXP_INPUT_LENGTH, 0), "2 before a ceiling above 2");
+        expect(is_plain(axp_trace_within(n, 0, high[i], NULL, 0, NULL, 0), AXP_INPUT_LENGTH, 0), "no image and a ceiling above 2");
+        expect(is_plain(axp_trace_within(n, 0, high[i], cells, size, NULL, 0), AXP_OUTPUT_SHORT, 0), "no output and a ceiling above 2");
+    }
+    cells[7] = AXP_LOST + 1;
+    expect(is_plain(axp_trace_within(n, axp_flag_b(9), 3, cells, size, out, size), AXP_CELL_VALUE, 7), "4 before a ceiling above 2");
+    cells[7] = 0;
+    for (i = 0; i <= AXP_MAX_CEILING; i++) {
+        expect(is_plain(axp_trace_within(n, 15, (uint32_t)i, cells, size, out, size), AXP_TOO_MANY, 0), "6 with a ceiling");
+        expect(is_plain(axp_trace_within(n, 0, (uint32_t)i, NULL, 0, out, size), AXP_INPUT_LENGTH, 0), "no image with a ceiling");
+        expect(is_plain(axp_trace_within(n, 0, (uint32_t)i, cells, size, NULL, 0), AXP_OUTPUT_SHORT, 0), "no output with a ceiling");
+    }
+    expect(is_filled(out, 0, sizeof out, 0x55), "output of refused ceilings");
+}
+
 static void one(uint32_t n)
 {
     static uint8_t payload[AXP_MAX_PAYLOAD_SIZE], back[AXP_MAX_PAYLOAD_SIZE + 8];
@@ -214,6 +293,7 @@ static void one(uint32_t n)
     packing(n, image);
     lost(n, image);
     stretches(n, image);
+    ceilings(n, image);
     memcpy(damaged, image, size);
     for (i = 0; i < l; i++) {
         damaged[1 * l + i] ^= i % 3 == 0;
@@ -247,7 +327,8 @@ static void flags(void)
         expect(axp_flag_a(t) == (uint32_t)1 << t && axp_flag_b(t) == (uint32_t)1 << (9 + t), "flag of a track");
     for (t = 9; t < 70; t++)
         expect(axp_repair(1, axp_flag_a(t), image, sizeof image, out, sizeof out).answer == AXP_FLAG_BIT &&
-               axp_trace(1, axp_flag_b(t), image, sizeof image, out, sizeof out).answer == AXP_FLAG_BIT, "flag of no track");
+               axp_trace(1, axp_flag_b(t), image, sizeof image, out, sizeof out).answer == AXP_FLAG_BIT &&
+               axp_trace_within(1, axp_flag_a(t), t % 5, image, sizeof image, out, sizeof out).answer == AXP_FLAG_BIT, "flag of no track");
 }
 
 /* Is every cell of the output 0? It is filled again for the next call. */
@@ -293,11 +374,13 @@ static void no_blocks(void)
     }
     /* A one in each set, then two in A, at the same position. */
     image[0] = image[17 * l] = 1;
-    expect(is_found(axp_trace(0, 0, image, size, out, size), axp_flag_a(0) | axp_flag_b(8), 2, 0, 17) && is_zeroed(out, size), "trace a one in each set");
+    expect(is_found(axp_trace_within(0, 0, 2, image, size, out, size), axp_flag_a(0) | axp_flag_b(8), 2, 0, 17) && is_zeroed(out, size), "trace a one in each set with ceiling 2");
+    expect(is_plain(axp_trace(0, 0, image, size, out, size), AXP_NO_RECORD, 0) && memcmp(out, image, size) == 0, "trace a one in each set");
     image[17 * l] = 0;
     image[8 * l] = 1;
     expect(is_plain(axp_read(0, image, size, NULL, 0), AXP_NO_RECORD, 0), "read two ones");
     expect(is_plain(axp_trace(0, 0, image, size, out, size), AXP_NO_RECORD, 0) && memcmp(out, image, size) == 0, "trace two ones in a set");
+    expect(is_plain(axp_trace_within(0, 0, 2, image, size, out, size), AXP_NO_RECORD, 0) && memcmp(out, image, size) == 0, "trace two ones in a set with ceiling 2");
 
     /* What is refused leaves the output as it came. */
     memset(out, 0x55, size);
@@ -325,6 +408,7 @@ static void block_counts(void)
         expect(is_plain(axp_read(n, NULL, 0, NULL, 0), AXP_BLOCK_COUNT, 0), "read too many blocks");
         expect(is_plain(axp_repair(n, 0, NULL, 0, NULL, 0), AXP_BLOCK_COUNT, 0), "repair too many blocks");
         expect(is_plain(axp_trace(n, 0, NULL, 0, NULL, 0), AXP_BLOCK_COUNT, 0), "trace too many blocks");
+        expect(is_plain(axp_trace_within(n, 0, 3, NULL, 0, NULL, 0), AXP_BLOCK_COUNT, 0), "trace too many blocks with a ceiling above 2");
         expect(is_plain(axp_repair_spans(n, NULL, 0, NULL, 0, NULL, 0), AXP_BLOCK_COUNT, 0), "stretches of too many blocks");
         expect(is_plain(axp_pack(n, NULL, 0, NULL, 0), AXP_BLOCK_COUNT, 0), "pack too many blocks");
         expect(is_plain(axp_unpack(n, NULL, 0, NULL, 0), AXP_BLOCK_COUNT, 0), "unpack too many blocks");
@@ -444,6 +528,8 @@ int main(void)
     expect(axp_repair(1, 0, NULL, 0, NULL, 0).answer == AXP_INPUT_LENGTH, "no image");
     expect(strcmp(axp_strerror(AXP_PADDING), "a padding bit is 1") == 0, "text of an answer");
     expect(strcmp(axp_strerror(AXP_SPANS), "the table of spans is out of order") == 0, "text of a table");
+    expect(strcmp(axp_strerror(AXP_CEILING), "the ceiling is above 2") == 0, "text of a ceiling");
+    expect(strcmp(axp_strerror(AXP_CEILING + 1), "unknown answer") == 0, "text of no answer");
     expect(sizeof(axp_result) == 24, "size of axp_result");
     expect(sizeof(axp_span) == 8, "size of axp_span");
     expect(sizeof(axp_written) == 8 && sizeof(axp_counted) == 8 && sizeof(axp_stretch) == 12, "sizes of the results of files");

@@ -1,24 +1,25 @@
 //! The comparison of the archive with document 01's examples and with the second decoder, in classes of inputs: each
 //! takes its generator, the number of rounds and the tally. The last eight classes are those of cartridge files, in files.rs,
 //! the seven before them those of flags by stretch, in spans.rs, the three before these those of packing and unpacking, the
-//! seven before these those of lost cells, and the one before these that of records of no blocks, which are in most other
-//! classes too.
+//! three before these those of tracing with a ceiling, the seven before these those of lost cells, and the one before these
+//! that of records of no blocks, which are in most other classes too.
 
-use crate::damage::{damage, lose, Random};
+use crate::damage::{damage, damage_each, lose, Random};
 use crate::ffi::{Answer, Call, LOST};
 use crate::files;
-use crate::second::{base, changed, code, expected, extra, lost_tracks, number, Rules, Shape};
+use crate::second::{base, changed, code, expected, extra, former_trace, lost_tracks, number, Rules, Shape};
 use crate::spans;
 
 /// The answers that there are: 0 and the numbers.
-pub const ANSWERS: usize = 12;
+pub const ANSWERS: usize = 13;
 
 /// The calls in the tally's order, and the answers that each can give.
-pub const CALLS: [(&str, &[usize]); 10] = [
+pub const CALLS: [(&str, &[usize]); 11] = [
     ("encode", &[0, 1, 2, 3]),
     ("read", &[0, 1, 2, 3, 4, 7]),
     ("repair", &[0, 1, 2, 3, 4, 5, 6, 7]),
     ("trace", &[0, 1, 2, 3, 4, 5, 6, 7]),
+    ("trace_within", &[0, 1, 2, 3, 4, 5, 6, 7, 12]),
     ("repair_spans", &[0, 1, 2, 3, 4, 6, 7, 9]),
     ("pack", &[0, 1, 2, 3, 4]),
     ("unpack", &[0, 1, 2, 3, 8]),
@@ -31,7 +32,7 @@ pub const CALLS: [(&str, &[usize]); 10] = [
 pub type Class = fn(&mut Random, u64, &mut Tally);
 
 /// The classes, by the name that their generator has too.
-pub const CLASSES: [(&str, Class); 35] = [
+pub const CLASSES: [(&str, Class); 38] = [
     ("examples", examples),
     ("every_block_count", every_block_count),
     ("every_payload_bit", every_payload_bit),
@@ -49,6 +50,9 @@ pub const CLASSES: [(&str, Class); 35] = [
     ("every_lost_cell", every_lost_cell),
     ("all_lost_words", all_lost_words),
     ("lost_in_every_count", lost_in_every_count),
+    ("ceilings", ceilings),
+    ("ceiling_numbers", ceiling_numbers),
+    ("ceiling_2_as_before", ceiling_2_as_before),
     ("packed_and_back", packed_and_back),
     ("padding", padding),
     ("packed_lengths", packed_lengths),
@@ -90,10 +94,29 @@ impl Tally {
     /// Calls the archive on an output of so many random bytes. Panics with the input's description where the answer, a
     /// byte of the output or one of the eight bytes behind it is not as the second decoder says.
     pub fn compare(&mut self, random: &mut Random, call: Call, blocks: u32, input: &[u8], room: usize) -> (Answer, Vec<u8>) {
+        self.compare_to(random, call, blocks, input, room, |before| expected(call, blocks, input, before))
+    }
+
+    /// The same of tracing with ceiling 2, which is to be as tracing was before there were ceilings.
+    fn compare_to_former(&mut self, random: &mut Random, flags: u32, blocks: u32, image: &[u8], room: usize) -> (Answer, Vec<u8>) {
+        let former = |before: &[u8]| former_trace(flags, blocks, image, before);
+        self.compare_to(random, Call::TraceWithin(flags, 2), blocks, image, room, former)
+    }
+
+    /// The same of a call, by what is right for an output of these bytes.
+    fn compare_to(
+        &mut self,
+        random: &mut Random,
+        call: Call,
+        blocks: u32,
+        input: &[u8],
+        room: usize,
+        right: impl Fn(&[u8]) -> (Answer, Vec<u8>),
+    ) -> (Answer, Vec<u8>) {
         let before = random.bytes(room + 8);
         let mut out = before.clone();
         let answer = call.make(blocks, input, &mut out[..room]);
-        let (wanted, mut after) = expected(call, blocks, input, &before[..room]);
+        let (wanted, mut after) = right(&before[..room]);
         after.extend(&before[room..]);
         if answer != wanted || out != after {
             panic!(
@@ -111,9 +134,10 @@ impl Tally {
             Call::Read => 1,
             Call::Repair(_) => 2,
             Call::Trace(_) => 3,
-            Call::RepairSpans(_) => 4,
-            Call::Pack => 5,
-            Call::Unpack => 6,
+            Call::TraceWithin(..) => 4,
+            Call::RepairSpans(_) => 5,
+            Call::Pack => 6,
+            Call::Unpack => 7,
         };
         self.counts[row][answer.answer as usize] += 1;
         out.truncate(room);
@@ -130,20 +154,41 @@ impl Tally {
         image
     }
 
-    /// An image read, repaired and traced, and the record that tracing gave, which is read too.
-    fn decode(&mut self, random: &mut Random, blocks: u32, flags: u32, image: &[u8]) -> Option<Vec<u8>> {
+    /// An image by each call that takes flags: the answers by ceiling, each with the record or, after 7, the copy. Repair is
+    /// tracing with ceiling 0, tracing without a ceiling is that with 1, and what one ceiling finds a higher one finds too,
+    /// all by what the archive itself answers and writes. Ceilings change nothing but 7 to 0.
+    fn mended(&mut self, random: &mut Random, blocks: u32, flags: u32, image: &[u8], room: usize) -> [(Answer, Vec<u8>); 3] {
+        let [repair, trace, none, one, two] = flag_calls(flags).map(|(call, _)| {
+            let (answer, mut out) = self.compare(random, call, blocks, image, room);
+            out.truncate(if matches!(answer.answer, 0 | 7) { image.len() } else { 0 });
+            (answer, out)
+        });
+        self.compare_to_former(random, flags, blocks, image, room);
+        assert!(none == repair, "blocks {blocks}, flags {flags:#x}: {:?}, {:?}", none.0, repair.0);
+        assert!(one == trace, "blocks {blocks}, flags {flags:#x}: {:?}, {:?}", one.0, trace.0);
+        for (lower, higher) in [(&none, &one), (&one, &two), (&none, &two)] {
+            let kept = if lower.0.answer == 7 { matches!(higher.0.answer, 0 | 7) } else { lower == higher };
+            assert!(kept, "blocks {blocks}, flags {flags:#x}: {:?}, {:?}", lower.0, higher.0);
+        }
+        [none, one, two]
+    }
+
+    /// An image read, repaired and traced, in one of four cases with a ceiling above 2 too: the answers and records by
+    /// ceiling. The record of the highest one is read too.
+    fn decode(&mut self, random: &mut Random, blocks: u32, flags: u32, image: &[u8]) -> [(Answer, Vec<u8>); 3] {
         let shape = Shape::base(blocks);
         let payload_room = shape.payload_size() + random.below(20);
         self.compare(random, Call::Read, blocks, image, payload_room);
         let room = shape.size() + random.below(20);
-        self.compare(random, Call::Repair(flags), blocks, image, room);
-        let (answer, mut out) = self.compare(random, Call::Trace(flags), blocks, image, room);
-        if answer.answer != 0 {
-            return None;
+        let found = self.mended(random, blocks, flags, image, room);
+        if random.below(4) == 0 {
+            let ceiling = high_ceiling(random);
+            self.compare(random, Call::TraceWithin(flags, ceiling), blocks, image, room);
         }
-        out.truncate(shape.size());
-        self.compare(random, Call::Read, blocks, &out, payload_room);
-        Some(out)
+        if found[2].0.answer == 0 {
+            self.compare(random, Call::Read, blocks, &found[2].1, payload_room);
+        }
+        found
     }
 
     /// A record with up to so many damaged tracks, decoded.
@@ -157,17 +202,17 @@ impl Tally {
     }
 
     /// An image with lost cells, packed and decoded.
-    fn lost(&mut self, random: &mut Random, blocks: u32, flags: u32, image: &[u8]) {
+    fn lost(&mut self, random: &mut Random, blocks: u32, flags: u32, image: &[u8]) -> [(Answer, Vec<u8>); 3] {
         let room = Shape::base(blocks).packed_size() + random.below(20);
         self.compare(random, Call::Pack, blocks, image, room);
-        self.decode(random, blocks, flags, image);
+        self.decode(random, blocks, flags, image)
     }
 
     /// A record with lost cells, few enough beside the flags, repaired and traced: the lost cells are the changed ones.
     fn filled(&mut self, random: &mut Random, blocks: u32, flags: u32, record: &[u8], image: &[u8]) {
         let (mask, cells) = changed(Shape::base(blocks), record, image);
         assert_eq!(cells as usize, image.iter().filter(|&&x| x == LOST).count());
-        for call in [Call::Repair(flags), Call::Trace(flags)] {
+        for (call, _) in flag_calls(flags) {
             let (answer, out) = self.compare(random, call, blocks, image, image.len());
             assert_eq!(answer, Answer { mask, cells, ..number(0, 0) }, "{call:?}, blocks {blocks}");
             assert!(out == record, "{call:?}, blocks {blocks}");
@@ -175,9 +220,8 @@ impl Tally {
     }
 
     /// A record with so many damaged tracks of A and of B that are flagged, or have lost cells, or both, and so many
-    /// that are neither. Tracing goes by the table for the first, and names the others alone.
-    fn limit(&mut self, random: &mut Random, wide: [usize; 2], extras: [usize; 2]) {
-        let blocks = few_blocks(random);
+    /// that are neither. Each ceiling goes by the table for the first, and names the others alone.
+    fn limit(&mut self, random: &mut Random, blocks: u32, wide: [usize; 2], extras: [usize; 2]) {
         let shape = Shape::base(blocks);
         let [a, b] = [0, 1].map(|set| tracks_of(random, shape, set, wide[set], 0));
         let outside = [0, 1].map(|set| tracks_of(random, shape, set, extras[set], a | b));
@@ -185,25 +229,29 @@ impl Tally {
         let flags = (a | b) & (!lost | random.next() as u32);
         let record = self.record(random, blocks);
         let mut image = record.clone();
-        damage(random, shape, &mut image, a | b | outside[0] | outside[1]);
+        damage(random, shape, &mut image, a | b);
+        damage_each(random, shape, &mut image, outside[0] | outside[1]);
         lose(random, shape, &mut image, lost);
-        self.lost(random, blocks, flags, &image);
-        let (answer, out) = self.compare(random, Call::Trace(flags), blocks, &image, image.len());
         let code = code(shape, a | b);
-        if code == 0 {
-            assert_eq!(answer, number(6, 0), "flags {flags:#x}, lost {lost:#x}");
-        } else if in_reach(code, extras) {
-            let (mask, cells) = changed(shape, &image, &record);
-            let [extra_a, extra_b] = outside.map(|word| extra(word & mask));
-            let wanted = Answer { mask, cells, extra_a, extra_b, ..number(0, 0) };
-            assert_eq!(answer, wanted, "flags {flags:#x}, lost {lost:#x}");
-            assert!(out == record, "flags {flags:#x}, lost {lost:#x}");
+        let (mask, cells) = changed(shape, &image, &record);
+        for (ceiling, (answer, out)) in (0..).zip(self.lost(random, blocks, flags, &image)) {
+            let of = format!("blocks {blocks}, flags {flags:#x}, lost {lost:#x}, others {outside:x?}, ceiling {ceiling}");
+            if code == 0 {
+                assert_eq!(answer, number(6, 0), "{of}");
+            } else if in_reach(code, ceiling, extras) {
+                let [extra_a, extra_b] = outside.map(extra);
+                assert_eq!(answer, Answer { mask, cells, extra_a, extra_b, ..number(0, 0) }, "{of}");
+                assert!(out == record, "{of}");
+            } else if no_other(wide, code, ceiling, extras) {
+                assert_eq!(answer, number(7, 0), "{of}");
+                assert!(out == image, "{of}");
+            }
         }
     }
 
     /// An image of no blocks, read, packed, and repaired and traced with each of these flags. The record of zeros is in
-    /// reach exactly if the code allows the tracks that are not zero, not flagged and without a lost cell; no other
-    /// record is good.
+    /// reach exactly if the code and the ceiling allow the tracks that are not zero, not flagged and without a lost cell; no
+    /// other record is good.
     fn zeroed(&mut self, random: &mut Random, image: &[u8], all_flags: &[u32]) {
         let shape = Shape::base(0);
         let zeros = vec![0; shape.size()];
@@ -222,13 +270,12 @@ impl Tally {
             let wide = flags | lost_tracks(shape, image);
             let code = code(shape, wide);
             let outside = [0, 1].map(|set| mask & !wide & shape.word(set));
-            // Repair allows no extras.
-            for (call, code) in [(Call::Repair(flags), code.min(1)), (Call::Trace(flags), code)] {
+            for (call, ceiling) in flag_calls(flags) {
                 let wanted = if flags >> 18 != 0 {
                     number(5, 0)
                 } else if code == 0 {
                     number(6, 0)
-                } else if in_reach(code, outside.map(|word| word.count_ones() as usize)) {
+                } else if in_reach(code, ceiling, outside.map(|word| word.count_ones() as usize)) {
                     let [extra_a, extra_b] = outside.map(extra);
                     Answer { mask, cells, extra_a, extra_b, ..number(0, 0) }
                 } else {
@@ -258,15 +305,32 @@ impl Tally {
     }
 }
 
-/// Does a code, not 0, allow so many extras of A and of B?
-fn in_reach(code: u32, [a, b]: [usize; 2]) -> bool {
-    match code {
+/// The calls that take a flag word, each with the extras that it allows in all at the most, its ceiling.
+fn flag_calls(flags: u32) -> [(Call<'static>, u32); 5] {
+    let [none, one, two] = [0, 1, 2].map(|ceiling| (Call::TraceWithin(flags, ceiling), ceiling));
+    [(Call::Repair(flags), 0), (Call::Trace(flags), 1), none, one, two]
+}
+
+/// Do a code, not 0, and a ceiling both allow so many extras of A and of B?
+fn in_reach(code: u32, ceiling: u32, [a, b]: [usize; 2]) -> bool {
+    let by_code = match code {
         5 => a <= 1 && b <= 1,
         4 => a + b <= 1,
         3 => a == 0 && b <= 1,
         2 => a <= 1 && b == 0,
         _ => a + b == 0,
-    }
+    };
+    by_code && a + b <= ceiling as usize
+}
+
+/// Beside a record that differs from an image in so many tracks of A and of B that count as flagged and in so many others, is
+/// there surely no second one in reach? The two would agree off these tracks and the second one's extras: where these are
+/// few enough together, two good records do not.
+fn no_other(wide: [usize; 2], code: u32, ceiling: u32, extras: [usize; 2]) -> bool {
+    [[0, 0], [1, 0], [0, 1], [1, 1]].into_iter().filter(|&others| in_reach(code, ceiling, others)).all(|others| {
+        let [a, b] = [0, 1].map(|set| wide[set] + extras[set] + others[set]);
+        a <= 3 && b <= 3 && a + b <= 4
+    })
 }
 
 /// A block count up to 12.
@@ -297,6 +361,28 @@ fn some_flags(random: &mut Random, shape: Shape, tracks: u32) -> u32 {
         9..=11 => 0,
         12..=14 => some_tracks(random, shape, 4),
         _ => tracks | 1 << (18 + random.below(14)),
+    }
+}
+
+/// Ceilings above 2: the next ones, and some whose low bits are those of one that is taken.
+const HIGH_CEILINGS: [u32; 16] = [
+    3, 4, 5, 255, 256, 257, 258, 65_536, 65_537, 65_538, 1 << 31, 1 + (1 << 31), 2 + (1 << 31), !2, !1, !0,
+];
+
+/// A ceiling above 2: one of these, or any.
+fn high_ceiling(random: &mut Random) -> u32 {
+    match random.below(4) {
+        0 => 3.max(random.next() as u32 >> random.below(30)),
+        1 => random.below(3) as u32 + (1 << (2 + random.below(30))),
+        _ => HIGH_CEILINGS[random.below(16)],
+    }
+}
+
+/// A ceiling, in one of four cases above 2.
+fn some_ceiling(random: &mut Random) -> u32 {
+    match random.below(4) {
+        0 => high_ceiling(random),
+        _ => random.below(3) as u32,
     }
 }
 
@@ -422,19 +508,33 @@ pub fn examples(random: &mut Random, _: u64, tally: &mut Tally) {
     assert_eq!(repaired, ones(&first));
     // The others that are proved, run all the same.
     let two = ones(&[a(0, 1), a(0, 2)]);
-    gives(Call::Trace(0), 1, &two, number(7, 0));
-    gives(Call::Trace(2), 1, &two, Answer { mask: 6, cells: 2, extra_a: 2, ..number(0, 0) });
-    gives(Call::Repair(0), 1, &ones(&[a(22, 8)]), number(7, 0));
-    gives(Call::Trace(0), 1, &ones(&[a(22, 8)]), Answer { mask: 256, cells: 1, extra_a: 8, ..number(0, 0) });
+    let last = ones(&[a(22, 8)]);
+    for trace in [Call::Trace, |flags| Call::TraceWithin(flags, 2)] {
+        gives(trace(0), 1, &two, number(7, 0));
+        gives(trace(2), 1, &two, Answer { mask: 6, cells: 2, extra_a: 2, ..number(0, 0) });
+        gives(trace(0), 1, &last, Answer { mask: 256, cells: 1, extra_a: 8, ..number(0, 0) });
+    }
+    gives(Call::Repair(0), 1, &last, number(7, 0));
     gives(Call::Repair(0), 1, &ones(&[a(8, 3)]), number(7, 0));
     gives(Call::Repair(526), 1, &ones(&[a(3, 1), b(20, 0)]), Answer { mask: 514, cells: 2, ..number(0, 0) });
-    gives(Call::Repair(15), 1, &zero, number(6, 0));
-    gives(Call::Repair(1 << 18), 1, &zero, number(5, 0));
+    for (call, _) in flag_calls(15) {
+        gives(call, 1, &zero, number(6, 0));
+    }
+    for (call, _) in flag_calls(1 << 18) {
+        gives(call, 1, &zero, number(5, 0));
+    }
+    // A one in each set: in reach with ceiling 2 alone.
+    let each = ones(&[a(3, 1), b(20, 0)]);
+    for (call, ceiling) in flag_calls(0) {
+        let both = Answer { mask: 514, cells: 2, extra_a: 1, extra_b: 9, ..number(0, 0) };
+        gives(call, 1, &each, if ceiling == 2 { both } else { number(7, 0) });
+    }
+    gives(Call::TraceWithin(0, 3), 1, &each, number(12, 0));
     // Count 257. 0 and 256 are taken, with 270 and 37,134 cells, and not with the lengths of one block.
     for (blocks, wanted) in [(257, 1), (u32::MAX, 1), (0, 2), (256, 2)] {
         gives(Call::Encode, blocks, &payload, number(wanted, 0));
         gives(Call::Unpack, blocks, &[0; 54], number(wanted, 0));
-        for call in [Call::Read, Call::Repair(0), Call::Trace(0), Call::Pack] {
+        for call in [Call::Read, Call::Repair(0), Call::Trace(0), Call::TraceWithin(0, 2), Call::TraceWithin(0, 3), Call::Pack] {
             gives(call, blocks, &zero, number(wanted, 0));
         }
     }
@@ -442,8 +542,9 @@ pub fn examples(random: &mut Random, _: u64, tally: &mut Tally) {
         let zeros = vec![0u8; cells];
         assert_eq!(gives(Call::Encode, blocks, &zeros[..bytes], number(0, 0)), zeros);
         assert_eq!(gives(Call::Read, blocks, &zeros, number(0, 0))[..bytes], zeros[..bytes]);
-        assert_eq!(gives(Call::Repair(0), blocks, &zeros, number(0, 0)), zeros);
-        assert_eq!(gives(Call::Trace(0), blocks, &zeros, number(0, 0)), zeros);
+        for (call, _) in flag_calls(0) {
+            assert_eq!(gives(call, blocks, &zeros, number(0, 0)), zeros);
+        }
         assert_eq!(gives(Call::Pack, blocks, &zeros, number(0, 0))[..packed], zeros[..packed]);
         assert_eq!(gives(Call::Unpack, blocks, &zeros[..packed], number(0, 0)), zeros);
     }
@@ -454,8 +555,10 @@ pub fn examples(random: &mut Random, _: u64, tally: &mut Tally) {
     for (value, detail) in [(0, 40), (LOST, 30)] {
         image[30] = value;
         gives(Call::Read, 1, &image, number(4, 40));
-        gives(Call::Repair(0), 1, &image, number(4, 40));
-        gives(Call::Trace(0), 1, &image, number(4, 40));
+        for (call, _) in flag_calls(0) {
+            gives(call, 1, &image, number(4, 40));
+        }
+        gives(Call::TraceWithin(0, 3), 1, &image, number(4, 40));
         gives(Call::Pack, 1, &image, number(4, detail));
     }
 }
@@ -469,7 +572,9 @@ pub fn every_block_count(random: &mut Random, rounds: u64, tally: &mut Tally) {
             let flags = random.tracks(shape, 3);
             let mut damaged = image.clone();
             damage(random, shape, &mut damaged, flags);
-            assert!(tally.decode(random, blocks, flags, &damaged) == Some(image), "blocks {blocks}, flags {flags}");
+            for (answer, out) in tally.decode(random, blocks, flags, &damaged) {
+                assert!(answer.answer == 0 && out == image, "blocks {blocks}, flags {flags}");
+            }
         }
     }
 }
@@ -529,7 +634,7 @@ pub fn noise(random: &mut Random, rounds: u64, tally: &mut Tally) {
 }
 
 /// No blocks and one: all words of 18 flags, and bits from 18 up alone, beside a flag and beside too many. The flagged
-/// tracks are damaged, and with a code above 0 the record comes back.
+/// tracks are damaged, and with a code above 0 the record comes back, with each ceiling.
 pub fn all_flag_words(random: &mut Random, _: u64, tally: &mut Tally) {
     for blocks in [0, 1] {
         let shape = Shape::base(blocks);
@@ -539,7 +644,7 @@ pub fn all_flag_words(random: &mut Random, _: u64, tally: &mut Tally) {
             let mut image = record.clone();
             damage(random, shape, &mut image, flags);
             let (mask, cells) = changed(shape, &image, &record);
-            for call in [Call::Repair(flags), Call::Trace(flags)] {
+            for (call, _) in flag_calls(flags) {
                 let (answer, out) = tally.compare(random, call, blocks, &image, shape.size());
                 let wanted = match code(shape, flags) {
                     _ if flags >> 18 != 0 => number(5, 0),
@@ -553,7 +658,7 @@ pub fn all_flag_words(random: &mut Random, _: u64, tally: &mut Tally) {
     }
 }
 
-/// Block counts, lengths, cell values and flags that are right or not, in every mixture.
+/// Block counts, lengths, cell values, flags and ceilings that are right or not, in every mixture.
 pub fn lengths_and_cells(random: &mut Random, rounds: u64, tally: &mut Tally) {
     for _ in 0..rounds {
         let (near, blocks) = some_counts(random);
@@ -564,7 +669,8 @@ pub fn lengths_and_cells(random: &mut Random, rounds: u64, tally: &mut Tally) {
             0 => random.next() as u32 >> random.below(32),
             _ => some_flags(random, rules.shape, tracks),
         };
-        for call in [Call::Encode, Call::Read, Call::Repair(flags), Call::Trace(flags)] {
+        let within = Call::TraceWithin(flags, some_ceiling(random));
+        for call in [Call::Encode, Call::Read, Call::Repair(flags), Call::Trace(flags), within] {
             let (mut input, result) = match call {
                 Call::Encode => (payload.clone(), image.len()),
                 Call::Read => (image.clone(), payload.len()),
@@ -601,7 +707,7 @@ pub fn too_many_is_too_many(random: &mut Random, rounds: u64, tally: &mut Tally)
             let doubt = rules.doubt(&rules.flagged(wide)) > 0;
             assert!(blocks > 0 || !doubt, "flags {wide:#x}");
             let too_many = doubt || blocks < 4 && code(rules.shape, wide) == 0;
-            for call in [Call::Repair(wide & !lost), Call::Trace(wide & !lost)] {
+            for (call, _) in flag_calls(wide & !lost) {
                 let (answer, _) = tally.compare(random, call, blocks, &image, image.len());
                 assert_eq!(answer.answer, if too_many { 6 } else { 0 }, "{call:?}, blocks {blocks}");
             }
@@ -620,6 +726,7 @@ pub fn no_blocks(random: &mut Random, rounds: u64, tally: &mut Tally) {
         (Call::Read, 270, 0),
         (Call::Repair(0), 270, 270),
         (Call::Trace(0), 270, 270),
+        (Call::TraceWithin(0, 2), 270, 270),
         (Call::Pack, 270, 36),
         (Call::Unpack, 36, 270),
     ] {
@@ -635,7 +742,7 @@ pub fn no_blocks(random: &mut Random, rounds: u64, tally: &mut Tally) {
         let own = 1 << (first / 15);
         let mut image = zeros.clone();
         image[first] = 3;
-        for call in [Call::Read, Call::Repair(own), Call::Trace(own), Call::Pack] {
+        for call in [Call::Read, Call::Repair(own), Call::Trace(own), Call::TraceWithin(own, some_ceiling(random)), Call::Pack] {
             let (answer, _) = tally.compare(random, call, 0, &image, image.len());
             assert_eq!(answer, number(4, first as u32), "{call:?}");
         }
@@ -681,7 +788,8 @@ pub fn lost_limits(random: &mut Random, rounds: u64, tally: &mut Tally) {
     for _ in 0..rounds / 80 {
         for (a, b) in (0..6).flat_map(|a| (0..6 - a).map(move |b| (a, b))) {
             for extras in [[0, 0], [1, 0], [0, 1], [1, 1]] {
-                tally.limit(random, [a, b], extras);
+                let blocks = few_blocks(random);
+                tally.limit(random, blocks, [a, b], extras);
             }
         }
     }
@@ -714,7 +822,8 @@ pub fn lost_and_bad_cells(random: &mut Random, rounds: u64, tally: &mut Tally) {
         }
         let flags = some_flags(random, rules.shape, lost);
         let first = |most: u8| image.iter().position(|&x| x > most).unwrap() as u32;
-        for (call, most) in [(Call::Read, 2), (Call::Repair(flags), 2), (Call::Trace(flags), 2), (Call::Pack, 1)] {
+        let within = Call::TraceWithin(flags, some_ceiling(random));
+        for (call, most) in [(Call::Read, 2), (Call::Repair(flags), 2), (Call::Trace(flags), 2), (within, 2), (Call::Pack, 1)] {
             let (answer, _) = tally.compare(random, call, blocks, &image, image.len());
             assert_eq!(answer, number(4, first(most)), "{call:?}, blocks {blocks}");
         }
@@ -760,7 +869,7 @@ pub fn all_lost_words(random: &mut Random, _: u64, tally: &mut Tally) {
                     tally.filled(random, blocks, flags, &record, &image);
                     continue;
                 }
-                for call in [Call::Repair(flags), Call::Trace(flags)] {
+                for (call, _) in flag_calls(flags) {
                     let (answer, _) = tally.compare(random, call, blocks, &image, image.len());
                     assert_eq!(answer, number(6, 0), "{call:?}, blocks {blocks}, lost {word:#x}");
                 }
@@ -781,6 +890,109 @@ pub fn lost_in_every_count(random: &mut Random, rounds: u64, tally: &mut Tally) 
             image[shape.size() - 1] = LOST;
             tally.filled(random, blocks, 0, &record, &image);
         }
+    }
+}
+
+/// Records damaged in 0 to 3 tracks that are not flagged, in every way over the sets, without flags and beside each number of
+/// tracks of A and of B that is repaired, flagged, or with lost cells, or both. Each ceiling finds the record where table and
+/// ceiling both reach it, and else gives 7 where there is surely no other. Every block count once, with a wrong track in each
+/// set and no flags.
+pub fn ceilings(random: &mut Random, rounds: u64, tally: &mut Tally) {
+    let repaired = [[1, 0], [0, 1], [1, 1], [2, 0], [0, 2], [2, 1], [1, 2], [2, 2], [3, 0], [0, 3], [3, 1], [1, 3]];
+    for blocks in 0..=256 {
+        tally.limit(random, blocks, [0, 0], [1, 1]);
+    }
+    for _ in 0..rounds / 40 {
+        for (a, b) in (0..4).flat_map(|a| (0..4 - a).map(move |b| (a, b))) {
+            for wide in [[0, 0], repaired[random.below(12)]] {
+                let blocks = some_blocks(random);
+                tally.limit(random, blocks, wide, [a, b]);
+            }
+        }
+    }
+}
+
+/// Number 12 beside all others, in every mixture: of what is wrong the first in checking order has its number, and where nothing
+/// is the record comes back. Ceilings from 0 to 2, and each of those above that are named.
+pub fn ceiling_numbers(random: &mut Random, rounds: u64, tally: &mut Tally) {
+    let order = [1, 2, 3, 4, 5, 12, 6, 7];
+    for _ in 0..rounds.div_ceil(2400) {
+        for (wrong, high) in (0..1 << 8).flat_map(|wrong| HIGH_CEILINGS.map(|high| (wrong, high))) {
+            let is_wrong = |number: u32| order.iter().position(|n| *n == number).is_some_and(|k| wrong >> k & 1 == 1);
+            let near = few_blocks(random);
+            let shape = Shape::base(near);
+            let record = tally.record(random, near);
+            let mut image = record.clone();
+            // Two tracks of A that are not flagged are beyond each ceiling. Four are too many flags.
+            if is_wrong(7) {
+                let tracks = tracks_of(random, shape, 0, 2, 0);
+                damage_each(random, shape, &mut image, tracks);
+            }
+            let mut flags = if is_wrong(6) { tracks_of(random, shape, 1, 4, 0) } else { 0 };
+            // Some of them by a lost cell.
+            let lost = flags & random.next() as u32;
+            lose(random, shape, &mut image, lost);
+            flags &= !lost;
+            if is_wrong(5) {
+                flags |= 1 << (18 + random.below(14));
+            }
+            let first = if is_wrong(4) { random.below(image.len()) } else { 0 };
+            if is_wrong(4) {
+                image[first] = some_value(random, 3);
+            }
+            let blocks = if is_wrong(1) { 257 + random.below(1000) as u32 } else { near };
+            let room = if is_wrong(3) { random.below(image.len()) } else { image.len() };
+            if is_wrong(2) {
+                image.push(0);
+            }
+            let ceiling = if is_wrong(12) { high } else { random.below(3) as u32 };
+            let call = Call::TraceWithin(flags, ceiling);
+            let (answer, out) = tally.compare(random, call, blocks, &image, room);
+            let given = order.into_iter().find(|n| is_wrong(*n)).unwrap_or(0);
+            let detail = if given == 4 { first as u32 } else { 0 };
+            assert_eq!(answer, number(given, detail), "{call:?}, blocks {blocks}, wrong {wrong:#b}");
+            assert!(given != 0 || out == record, "{call:?}, blocks {blocks}");
+            assert!(given != 7 || out == image, "{call:?}, blocks {blocks}");
+        }
+    }
+}
+
+/// Ceiling 2 is tracing as it was before there were ceilings, on every kind of image: records with up to three damaged tracks, and
+/// noise, with lost cells and all kinds of flags, and counts, lengths and cell values that are right or not. Where tracing
+/// without a ceiling does not give 7, it answers the same.
+pub fn ceiling_2_as_before(random: &mut Random, rounds: u64, tally: &mut Tally) {
+    for round in 0..rounds {
+        let (near, blocks) = match round % 4 {
+            0 => some_counts(random),
+            1 => [(0, 0), (1, 1)][random.below(2)],
+            _ => {
+                let blocks = some_blocks(random);
+                (blocks, blocks)
+            }
+        };
+        let shape = Shape::base(near);
+        let (_, mut image) = random.record(base(near));
+        if random.below(8) == 0 {
+            image.iter_mut().for_each(|x| *x = random.below(2) as u8);
+        }
+        let tracks = some_tracks(random, shape, 3);
+        damage(random, shape, &mut image, tracks);
+        if random.below(3) == 0 {
+            let lost = some_lost(random, shape);
+            lose(random, shape, &mut image, lost);
+        }
+        let mut room = image.len() + random.below(20);
+        if round % 4 == 0 {
+            bad_cells(random, &mut image, 3);
+            room = some_room(random, image.len());
+            some_length(random, &mut image);
+        }
+        let flags = some_flags(random, shape, tracks);
+        let (now, out) = tally.compare_to_former(random, flags, blocks, &image, room);
+        let (trace, same) = tally.compare(random, Call::Trace(flags), blocks, &image, room);
+        assert!(trace.answer == 7 || trace == now, "blocks {blocks}, flags {flags:#x}: {trace:?}, {now:?}");
+        let found = trace.answer == 0;
+        assert!(!found || same[..image.len()] == out[..image.len()], "blocks {blocks}, flags {flags:#x}");
     }
 }
 

@@ -92,6 +92,18 @@ pub fn damage(random: &mut Random, shape: Shape, image: &mut [u8], tracks: u32) 
     }
 }
 
+/// Damages the tracks of a word, each in one cell at least.
+pub fn damage_each(random: &mut Random, shape: Shape, image: &mut [u8], tracks: u32) {
+    let before = image.to_vec();
+    damage(random, shape, image, tracks);
+    for g in (0..shape.all_tracks()).filter(|g| tracks >> g & 1 == 1) {
+        let cells = g * shape.length()..(g + 1) * shape.length();
+        if image[cells.clone()] == before[cells.clone()] {
+            image[cells.start + random.below(shape.length())] ^= 1;
+        }
+    }
+}
+
 /// Loses cells of the tracks of a word, all or some of: the whole track, the tail, a burst, the first cell, the last,
 /// or another. At least one of each track is lost. Damage comes before it.
 pub fn lose(random: &mut Random, shape: Shape, image: &mut [u8], tracks: u32) {

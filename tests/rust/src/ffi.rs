@@ -1,4 +1,4 @@
-//! The archive's ten calls, as C programs see them.
+//! The archive's eleven calls, as C programs see them.
 
 /// `axp_result` of include/axp.h.
 #[repr(C)]
@@ -56,6 +56,7 @@ extern "C" {
     fn axp_read(blocks: u32, image: *const u8, image_len: usize, out: *mut u8, out_len: usize) -> Answer;
     fn axp_repair(blocks: u32, flags: u32, image: *const u8, image_len: usize, out: *mut u8, out_len: usize) -> Answer;
     fn axp_trace(blocks: u32, flags: u32, image: *const u8, image_len: usize, out: *mut u8, out_len: usize) -> Answer;
+    fn axp_trace_within(blocks: u32, flags: u32, ceiling: u32, image: *const u8, image_len: usize, out: *mut u8, out_len: usize) -> Answer;
     fn axp_repair_spans(blocks: u32, spans: *const Span, spans_len: usize, image: *const u8, image_len: usize, out: *mut u8, out_len: usize) -> Answer;
     fn axp_pack(blocks: u32, image: *const u8, image_len: usize, out: *mut u8, out_len: usize) -> Answer;
     fn axp_unpack(blocks: u32, packed: *const u8, packed_len: usize, out: *mut u8, out_len: usize) -> Answer;
@@ -79,13 +80,14 @@ pub fn file_entry(file: &[u8], index: u32) -> Stretch {
     unsafe { axp_file_entry(file.as_ptr(), file.len(), index) }
 }
 
-/// A call, with its flags or its table where it takes some.
+/// A call, with its flags, its flags and its ceiling, or its table where it takes some.
 #[derive(Clone, Copy, Debug, PartialEq, Eq)]
 pub enum Call<'a> {
     Encode,
     Read,
     Repair(u32),
     Trace(u32),
+    TraceWithin(u32, u32),
     RepairSpans(&'a [Span]),
     Pack,
     Unpack,
@@ -102,6 +104,7 @@ impl Call<'_> {
                 Call::Read => axp_read(blocks, from, from_len, to, to_len),
                 Call::Repair(flags) => axp_repair(blocks, flags, from, from_len, to, to_len),
                 Call::Trace(flags) => axp_trace(blocks, flags, from, from_len, to, to_len),
+                Call::TraceWithin(flags, ceiling) => axp_trace_within(blocks, flags, ceiling, from, from_len, to, to_len),
                 Call::RepairSpans(spans) => {
                     axp_repair_spans(blocks, spans.as_ptr(), spans.len(), from, from_len, to, to_len)
                 }

@@ -96,7 +96,7 @@ impl Tally {
             bytes.len(),
             (0..out.len()).find(|&i| out[i] != after[i])
         );
-        self.counts[7][answer.answer as usize] += 1;
+        self.counts[8][answer.answer as usize] += 1;
         out.truncate(room);
         (answer, out)
     }
@@ -105,7 +105,7 @@ impl Tally {
     pub fn compare_count(&mut self, file: &[u8]) -> Counted {
         let (answer, wanted) = (file_count(file), count(file));
         assert_eq!(answer, wanted, "class {}, seed {}: count of {file:?}", self.class, self.seed);
-        self.counts[8][answer.answer as usize] += 1;
+        self.counts[9][answer.answer as usize] += 1;
         answer
     }
 
@@ -113,7 +113,7 @@ impl Tally {
     pub fn compare_entry(&mut self, file: &[u8], index: u32) -> Stretch {
         let (answer, wanted) = (file_entry(file, index), find(file, index));
         assert_eq!(answer, wanted, "class {}, seed {}: entry {index} of {file:?}", self.class, self.seed);
-        self.counts[9][answer.answer as usize] += 1;
+        self.counts[10][answer.answer as usize] += 1;
         answer
     }
 

@@ -5,6 +5,8 @@
 //! tells what a byte of an image is, and the tracks with a lost cell join the flags before anything is looked up. The
 //! record of no blocks is its note 3: the same rules, over the tail alone. Flags by stretch are its note 5: the unknown
 //! cells are those of the table and the lost ones, and the tracks of each window are looked up one window after the other.
+//! Tracing with a ceiling is its note 7: the choices of extras are listed as document 01's table has them, and those of more
+//! tracks than the ceiling are struck off the list. Tracing without one lists them by code 4 where the table says 5.
 
 use crate::ffi::{Answer, Call, Span, LOST, NO_EXTRA};
 use std::sync::OnceLock;
@@ -448,13 +450,13 @@ pub fn windows_coded(shape: Shape, flagged: &[bool]) -> bool {
     (0..shape.length()).all(|m| code(shape, tracks_from(shape, flagged, m, 16)) != 0)
 }
 
-/// The extra tracks that the code allows, as words.
-pub fn choices(shape: Shape, flags: u32) -> Vec<u32> {
+/// The extra tracks that a code allows beside these flags, as words.
+pub fn choices(shape: Shape, flags: u32, code: u32) -> Vec<u32> {
     let of = |set: usize| -> Vec<u32> {
         let tracks = (0..shape.tracks(set)).map(|t| 1 << shape.track_number(set, t));
         std::iter::once(0).chain(tracks.filter(|b| flags & b == 0)).collect()
     };
-    let (a, b) = match code(shape, flags) {
+    let (a, b) = match code {
         5 | 4 => (of(0), of(1)),
         3 => (vec![0], of(1)),
         2 => (of(0), vec![0]),
@@ -464,11 +466,24 @@ pub fn choices(shape: Shape, flags: u32) -> Vec<u32> {
     let mut all = Vec::new();
     for &x in &a {
         for &y in &b {
-            if code(shape, flags) == 5 || x == 0 || y == 0 {
+            if code == 5 || x == 0 || y == 0 {
                 all.push(x | y);
             }
         }
     }
+    all
+}
+
+/// The choices of tracing without a ceiling: code 4 stands in place of 5.
+pub fn cautious_choices(shape: Shape, flags: u32) -> Vec<u32> {
+    let code = code(shape, flags);
+    choices(shape, flags, if code == 5 { 4 } else { code })
+}
+
+/// The choices of tracing with a ceiling: those of the table's code, of so many tracks at the most.
+pub fn choices_within(shape: Shape, flags: u32, ceiling: u32) -> Vec<u32> {
+    let mut all = choices(shape, flags, code(shape, flags));
+    all.retain(|choice| choice.count_ones() <= ceiling);
     all
 }
 
@@ -546,7 +561,7 @@ pub fn expected(call: Call, blocks: u32, input: &[u8], before: &[u8]) -> (Answer
     let (input_len, result_len) = match call {
         Call::Encode => (shape.payload_size(), shape.size()),
         Call::Read => (shape.size(), shape.payload_size()),
-        Call::Repair(_) | Call::Trace(_) | Call::RepairSpans(_) => (shape.size(), shape.size()),
+        Call::Repair(_) | Call::Trace(_) | Call::TraceWithin(..) | Call::RepairSpans(_) => (shape.size(), shape.size()),
         Call::Pack => (shape.size(), shape.packed_size()),
         Call::Unpack => (shape.packed_size(), shape.size()),
     };
@@ -572,7 +587,7 @@ pub fn expected(call: Call, blocks: u32, input: &[u8], before: &[u8]) -> (Answer
         return result(&pack(shape, input));
     }
     let rules = base(blocks);
-    let (word, extras) = match call {
+    let word = match call {
         Call::RepairSpans(spans) if !in_order(spans, input.len()) => return refused(9, 0),
         Call::RepairSpans(spans) => {
             let unknown = flagged_cells(spans, input);
@@ -581,21 +596,52 @@ pub fn expected(call: Call, blocks: u32, input: &[u8], before: &[u8]) -> (Answer
             }
             return reached(rules, &unknown, &[0], input, before);
         }
-        Call::Repair(word) => (word, false),
-        Call::Trace(word) => (word, true),
+        Call::Repair(word) | Call::Trace(word) | Call::TraceWithin(word, _) => word,
         _ if rules.is_good(input) => return result(&payload(shape, input)),
         _ => return refused(7, 0),
     };
     if word >> shape.all_tracks() != 0 {
         return refused(5, 0);
     }
+    if matches!(call, Call::TraceWithin(_, ceiling) if ceiling > 2) {
+        return refused(12, 0);
+    }
     // A track with a lost cell counts as flagged.
     let flags = word | lost_tracks(shape, input);
     if code(shape, flags) == 0 {
         return refused(6, 0);
     }
-    let choices = if extras { choices(shape, flags) } else { vec![0] };
+    let choices = match call {
+        Call::Trace(_) => cautious_choices(shape, flags),
+        Call::TraceWithin(_, ceiling) => choices_within(shape, flags, ceiling),
+        _ => vec![0],
+    };
     reached(rules, &rules.flagged(flags), &choices, input, before)
+}
+
+/// What document 01 and note 2 of document 02 say of tracing, as it was before note 7: the table's code for the flags and the
+/// lost cells decides alone, 5 where there are none. Tracing with ceiling 2 is that to this day.
+pub fn former_trace(word: u32, blocks: u32, image: &[u8], before: &[u8]) -> (Answer, Vec<u8>) {
+    let shape = Shape::base(blocks.min(256));
+    let bad = image.iter().position(|&x| reading(x).is_none());
+    let (answer, detail) = match bad {
+        _ if blocks > 256 => (1, 0),
+        _ if image.len() != shape.size() => (2, 0),
+        _ if before.len() < shape.size() => (3, 0),
+        Some(i) => (4, i as u32),
+        None if word >> 18 != 0 => (5, 0),
+        None => {
+            let flags = word | lost_tracks(shape, image);
+            match code(shape, flags) {
+                0 => (6, 0),
+                code => {
+                    let rules = base(blocks);
+                    return reached(rules, &rules.flagged(flags), &choices(shape, flags, code), image, before);
+                }
+            }
+        }
+    };
+    (number(answer, detail), before.to_vec())
 }
 
 /// Answer 0 with the good record in reach, or 7 with a copy of the image, and every byte of the output.

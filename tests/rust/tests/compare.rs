@@ -94,6 +94,21 @@ fn lost_in_every_count() {
 }
 
 #[test]
+fn ceilings() {
+    compare("ceilings");
+}
+
+#[test]
+fn ceiling_numbers() {
+    compare("ceiling_numbers");
+}
+
+#[test]
+fn ceiling_2_as_before() {
+    compare("ceiling_2_as_before");
+}
+
+#[test]
 fn packed_and_back() {
     compare("packed_and_back");
 }

@@ -66,7 +66,7 @@ fn between<'a>(text: &'a str, from: &str, to: &str) -> &'a str {
 fn calls() {
     let header = folded(&file("include/axp.h"));
     let wanted = from_source(&file("crates/axp_c/src/lib.rt"));
-    assert_eq!(wanted.len(), 10);
+    assert_eq!(wanted.len(), 11);
     for call in &wanted {
         assert!(header.contains(call.as_str()), "include/axp.h does not declare: {call}");
     }
@@ -141,8 +141,10 @@ fn constants() {
     assert!(header.contains(&format!("#define AXP_MAX_ENTRY_SIZE {}\n", 6 + 18 * (256 + 2))));
     assert!(files.contains("directory-size count = 2 + 8 * count\n"));
     assert!(header.contains("#define AXP_DIRECTORY_SIZE(k) (2 + 8 * (size_t)(k))\n"));
-    // The numbers are document 01's, 0 to 7 in order, and 8 to 11 of document 02.
+    // The ceilings are 0 to 2.
+    assert!(header.contains("#define AXP_MAX_CEILING 2\n"));
+    // The numbers are document 01's, 0 to 7 in order, and 8 to 12 of document 02.
     let list = folded(between(&header, "enum axp_answer {", "};"));
     let values: Vec<u32> = list.split(',').map(|e| e.split('=').nth(1).unwrap().trim().parse().unwrap()).collect();
-    assert_eq!(values, (0..12).collect::<Vec<u32>>());
+    assert_eq!(values, (0..13).collect::<Vec<u32>>());
 }

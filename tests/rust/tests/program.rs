@@ -1,6 +1,6 @@
 //! The program `axp` on stored inputs: tests/axp/NAME.in and what it must print, NAME.out.
 
-use axp_tests::damage::{damage, Random};
+use axp_tests::damage::{damage, damage_each, Random};
 use axp_tests::ffi::{Call, LOST};
 use axp_tests::second::{base, expected, Shape};
 use std::collections::HashSet;
@@ -26,7 +26,8 @@ fn cases() -> Vec<(&'static str, Vec<u8>, String)> {
         input.extend(image);
         let before = vec![0u8; 37_134];
         let mut text = format!("axp {blocks} {flags}\n");
-        for (line, call) in [("repair", Call::Repair(flags)), ("trace", Call::Trace(flags))] {
+        // The program passes ceiling 2.
+        for (line, call) in [("repair", Call::Repair(flags)), ("trace", Call::TraceWithin(flags, 2))] {
             let (r, _) = expected(call, blocks, image, &before);
             let second = if r.answer == 0 { r.mask } else { r.detail };
             text += &format!("{line} {} {second} {}\n", r.answer, r.cells);
@@ -64,6 +65,9 @@ fn cases() -> Vec<(&'static str, Vec<u8>, String)> {
     damage(&mut random, Shape::base(2), &mut record, 1 << 1 | 1 << 15);
     record[31 + 7] = LOST;
     record[5 * 31..6 * 31].fill(LOST);
+    // Noise in A3 and B8, neither of them flagged.
+    let (_, mut each) = random.record(base(3));
+    damage_each(&mut random, Shape::base(3), &mut each, 1 << 3 | 1 << 17);
     vec![
         image("listing", 1, 0, &one),
         image("count_0", 0, 0, &none),
@@ -77,6 +81,8 @@ fn cases() -> Vec<(&'static str, Vec<u8>, String)> {
         image("flag_bit", 1, 1 << 18, &zero),
         image("too_many", 1, 15, &zero),
         image("repaired_256", 256, tracks, &damaged),
+        image("each_set_traced", 3, 0, &each),
+        image("each_set_no_record", 3, 1 << 4, &each),
         image("lost_repaired", 2, 1 << 1 | 1 << 15, &record),
         image("lost_zero", 1, 0, &sparse(1, &[], &[(1, 0), (17, 22)])),
         image("lost_traced", 1, 0, &sparse(1, &[(2, 0)], &[(1, 0)])),

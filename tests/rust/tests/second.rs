@@ -1,12 +1,13 @@
 //! The second decoder against the rules themselves, for other shapes than document 01's: unequal sets, no blocks, open
 //! tails, and unknown cells that are no whole tracks. Its packing against note 1 of document 02, its lost cells against
-//! note 2, its record of no blocks against note 3 and its flags by stretch against note 5, worked out by hand.
+//! note 2, its record of no blocks against note 3, its flags by stretch against note 5 and its ceilings against note 7, worked
+//! out by hand.
 
 use axp_tests::damage::{damage, lose, rounds, Random};
 use axp_tests::ffi::{Answer, Call, Span, LOST};
 use axp_tests::second::{
-    base, choices, code, encode, expected, in_order, is_bit, lost_tracks, number, pack, payload, reached, reading, tracks_from,
-    unpack, windows_coded, Closing, Reading, Rules, Shape,
+    base, cautious_choices, choices, choices_within, code, encode, expected, former_trace, in_order, is_bit, lost_tracks, number,
+    pack, payload, reached, reading, tracks_from, unpack, windows_coded, Closing, Reading, Rules, Shape,
 };
 
 const SIZES: [(usize, usize); 5] = [(1, 1), (1, 7), (7, 3), (3, 2), (7, 7)];
@@ -396,7 +397,7 @@ fn gives(blocks: u32, call: Call, cells: &[(usize, u8)], wanted: Answer) {
     let image = bytes(size, cells);
     let mut after = match (wanted.answer, call) {
         (0, _) => vec![0; size],
-        (7, Call::Repair(_) | Call::Trace(_) | Call::RepairSpans(_)) => image.clone(),
+        (7, Call::Repair(_) | Call::Trace(_) | Call::TraceWithin(..) | Call::RepairSpans(_)) => image.clone(),
         _ => vec![9; size],
     };
     after.push(9);
@@ -404,10 +405,23 @@ fn gives(blocks: u32, call: Call, cells: &[(usize, u8)], wanted: Answer) {
     assert_eq!(given, (wanted, after), "{call:?}, blocks {blocks}, {cells:?}");
 }
 
-/// The same of repair and of tracing.
-fn both_give(blocks: u32, flags: u32, cells: &[(usize, u8)], wanted: Answer) {
+/// The same of repair, of tracing without a ceiling and of tracing with each one. A ceiling above 2 is 12, where none of 1 to 5
+/// applies.
+fn all_give(blocks: u32, flags: u32, cells: &[(usize, u8)], wanted: Answer) {
     gives(blocks, Call::Repair(flags), cells, wanted);
     gives(blocks, Call::Trace(flags), cells, wanted);
+    (0..=2).for_each(|ceiling| gives(blocks, Call::TraceWithin(flags, ceiling), cells, wanted));
+    let high = if (1..=5).contains(&wanted.answer) { wanted } else { number(12, 0) };
+    gives(blocks, Call::TraceWithin(flags, 3), cells, high);
+}
+
+/// The record of zeros is in reach from this ceiling on, and below it none is. Repair is as ceiling 0, tracing as ceiling 1.
+fn in_reach_from(least: u32, blocks: u32, flags: u32, cells: &[(usize, u8)], wanted: Answer) {
+    let with = |ceiling: u32| if ceiling < least { number(7, 0) } else { wanted };
+    gives(blocks, Call::Repair(flags), cells, with(0));
+    gives(blocks, Call::Trace(flags), cells, with(1));
+    (0..=2).for_each(|ceiling| gives(blocks, Call::TraceWithin(flags, ceiling), cells, with(ceiling)));
+    gives(blocks, Call::TraceWithin(flags, 3), cells, number(12, 0));
 }
 
 /// Answer 0 with this mask and so many cells, and no extra.
@@ -420,27 +434,26 @@ fn filled(mask: u32, cells: u32) -> Answer {
 #[test]
 fn lost_examples() {
     // A lost cell that is filled with 0 counts. Its track is no extra, flagged or not, and is repaired as a whole.
-    both_give(1, 0, &[(23, 2)], filled(2, 1));
-    both_give(1, 2, &[(23, 2), (45, 1)], filled(2, 2));
-    both_give(1, 0, &[(23, 2), (45, 1)], filled(2, 2));
+    all_give(1, 0, &[(23, 2)], filled(2, 1));
+    all_give(1, 2, &[(23, 2), (45, 1)], filled(2, 2));
+    all_give(1, 0, &[(23, 2), (45, 1)], filled(2, 2));
     let whole: Vec<(usize, u8)> = (92..115).map(|i| (i, 2)).collect();
-    both_give(1, 0, &whole, filled(16, 23));
+    all_give(1, 0, &whole, filled(16, 23));
     // A cell of A2 beside one lost in A1: an extra.
-    gives(1, Call::Repair(0), &[(23, 2), (46, 1)], number(7, 0));
-    gives(1, Call::Trace(0), &[(23, 2), (46, 1)], Answer { extra_a: 2, ..filled(6, 2) });
+    in_reach_from(1, 1, 0, &[(23, 2), (46, 1)], Answer { extra_a: 2, ..filled(6, 2) });
     // Beside two of A, only one of B; beside two and one, none.
-    both_give(1, 0, &[(23, 2), (46, 2), (69, 1)], number(7, 0));
-    gives(1, Call::Trace(0), &[(23, 2), (46, 2), (276, 1)], Answer { extra_b: 12, ..filled(6 | 1 << 12, 3) });
-    both_give(1, 1 << 10, &[(23, 2), (46, 2), (276, 1)], number(7, 0));
+    all_give(1, 0, &[(23, 2), (46, 2), (69, 1)], number(7, 0));
+    in_reach_from(1, 1, 0, &[(23, 2), (46, 2), (276, 1)], Answer { extra_b: 12, ..filled(6 | 1 << 12, 3) });
+    all_give(1, 1 << 10, &[(23, 2), (46, 2), (276, 1)], number(7, 0));
     // Three and one, two and two; a track that is flagged and has a lost cell is one.
-    both_give(1, 0, &[(23, 2), (46, 2), (69, 2), (207, 2)], filled(526, 4));
-    both_give(1, 526, &[(23, 2), (229, 2)], filled(514, 2));
-    both_give(1, 6, &[(207, 2), (276, 2)], filled(1 << 9 | 1 << 12, 2));
+    all_give(1, 0, &[(23, 2), (46, 2), (69, 2), (207, 2)], filled(526, 4));
+    all_give(1, 526, &[(23, 2), (229, 2)], filled(514, 2));
+    all_give(1, 6, &[(207, 2), (276, 2)], filled(1 << 9 | 1 << 12, 2));
     // Document 01's record of payload 128 with A(0,1), which is 1, lost.
     let record = encode(base(1), &[128, 0, 0, 0, 0, 0, 0, 0, 0, 0, 0, 0, 0, 0]);
     let mut image = record.clone();
     image[23] = LOST;
-    for call in [Call::Repair(0), Call::Trace(0)] {
+    for call in [Call::Repair(0), Call::Trace(0), Call::TraceWithin(0, 0), Call::TraceWithin(0, 2)] {
         assert_eq!(expected(call, 1, &image, &[9; 414]), (filled(2, 1), record.clone()), "{call:?}");
     }
 }
@@ -449,17 +462,17 @@ fn lost_examples() {
 fn numbers_of_lost_cells() {
     // All cells, four tracks of a set, and three and two.
     let all: Vec<(usize, u8)> = (0..414).map(|i| (i, 2)).collect();
-    both_give(1, 0, &all, number(6, 0));
-    both_give(1, 0, &[(0, 2), (23, 2), (46, 2), (69, 2)], number(6, 0));
-    both_give(1, 7, &[(69, 2)], number(6, 0));
-    both_give(1, 1 << 9, &[(23, 2), (46, 2), (69, 2), (230, 2)], number(6, 0));
+    all_give(1, 0, &all, number(6, 0));
+    all_give(1, 0, &[(0, 2), (23, 2), (46, 2), (69, 2)], number(6, 0));
+    all_give(1, 7, &[(69, 2)], number(6, 0));
+    all_give(1, 1 << 9, &[(23, 2), (46, 2), (69, 2), (230, 2)], number(6, 0));
     // 5 is about the flag word alone, and comes before 6.
-    both_give(1, 1 << 18, &[(0, 2), (23, 2), (46, 2), (69, 2)], number(5, 0));
+    all_give(1, 1 << 18, &[(0, 2), (23, 2), (46, 2), (69, 2)], number(5, 0));
     // 4 is about cells above 2, for packing above 1, and comes before both.
-    both_give(1, 1 << 18 | 15, &[(10, 2), (40, 3), (41, 255), (413, 2)], number(4, 40));
+    all_give(1, 1 << 18 | 15, &[(10, 2), (40, 3), (41, 255), (413, 2)], number(4, 40));
     gives(1, Call::Read, &[(10, 2), (40, 3), (41, 255)], number(4, 40));
     gives(1, Call::Pack, &[(10, 2), (40, 3)], number(4, 10));
-    for call in [Call::Read, Call::Repair(0), Call::Trace(0), Call::Pack] {
+    for call in [Call::Read, Call::Repair(0), Call::Trace(0), Call::TraceWithin(0, 3), Call::Pack] {
         gives(1, call, &[(10, 3), (40, 2)], number(4, 10));
     }
     gives(1, Call::Pack, &[(413, 2)], number(4, 413));
@@ -475,34 +488,33 @@ fn no_block_examples() {
     for room in [0, 1, 14] {
         assert_eq!(expected(Call::Read, 0, &[0; 270], &vec![9; room]), (number(0, 0), vec![9; room]));
     }
-    both_give(0, 0, &[], filled(0, 0));
-    both_give(0, 526, &[], filled(0, 0));
+    all_give(0, 0, &[], filled(0, 0));
+    all_give(0, 526, &[], filled(0, 0));
     // No other is good: a cell that is 1 is an extra's, or a flagged track's, or out of reach.
     gives(0, Call::Read, &[(15, 1)], number(7, 0));
-    gives(0, Call::Repair(0), &[(15, 1)], number(7, 0));
-    gives(0, Call::Trace(0), &[(15, 1)], Answer { extra_a: 1, ..filled(2, 1) });
-    gives(0, Call::Trace(0), &[(29, 1), (269, 1)], Answer { extra_a: 1, extra_b: 17, ..filled(2 | 1 << 17, 2) });
-    both_give(0, 2, &[(15, 1), (29, 1)], filled(2, 2));
-    both_give(0, 0, &[(15, 1), (30, 1)], number(7, 0));
-    gives(0, Call::Trace(6), &[(15, 1), (180, 1)], Answer { extra_b: 12, ..filled(2 | 1 << 12, 2) });
-    both_give(0, 6, &[(15, 1), (45, 1)], number(7, 0));
-    both_give(0, 526, &[(15, 1), (149, 1)], filled(514, 2));
+    in_reach_from(1, 0, 0, &[(15, 1)], Answer { extra_a: 1, ..filled(2, 1) });
+    in_reach_from(2, 0, 0, &[(29, 1), (269, 1)], Answer { extra_a: 1, extra_b: 17, ..filled(2 | 1 << 17, 2) });
+    all_give(0, 2, &[(15, 1), (29, 1)], filled(2, 2));
+    all_give(0, 0, &[(15, 1), (30, 1)], number(7, 0));
+    in_reach_from(1, 0, 6, &[(15, 1), (180, 1)], Answer { extra_b: 12, ..filled(2 | 1 << 12, 2) });
+    all_give(0, 6, &[(15, 1), (45, 1)], number(7, 0));
+    all_give(0, 526, &[(15, 1), (149, 1)], filled(514, 2));
     // Lost cells.
-    both_give(0, 0, &[(15, 2), (269, 2)], filled(2 | 1 << 17, 2));
-    gives(0, Call::Trace(0), &[(15, 2), (30, 1)], Answer { extra_a: 2, ..filled(6, 2) });
-    both_give(0, 0, &[(15, 2), (30, 1), (45, 1)], number(7, 0));
+    all_give(0, 0, &[(15, 2), (269, 2)], filled(2 | 1 << 17, 2));
+    in_reach_from(1, 0, 0, &[(15, 2), (30, 1)], Answer { extra_a: 2, ..filled(6, 2) });
+    all_give(0, 0, &[(15, 2), (30, 1), (45, 1)], number(7, 0));
     gives(0, Call::Read, &[(269, 2)], number(7, 0));
 }
 
 #[test]
 fn numbers_of_no_blocks() {
-    for call in [Call::Encode, Call::Read, Call::Repair(0), Call::Trace(0), Call::Pack, Call::Unpack] {
+    for call in [Call::Encode, Call::Read, Call::Repair(0), Call::Trace(0), Call::TraceWithin(0, 3), Call::Pack, Call::Unpack] {
         for blocks in [257, 512, 65_536, u32::MAX] {
             refused(call, blocks, &[], 0, (1, 0));
             refused(call, blocks, &[0; 270], 270, (1, 0));
         }
     }
-    for call in [Call::Read, Call::Repair(0), Call::Trace(0), Call::Pack] {
+    for call in [Call::Read, Call::Repair(0), Call::Trace(0), Call::TraceWithin(0, 3), Call::Pack] {
         for len in [0, 269, 271, 414] {
             refused(call, 0, &vec![3; len], 270, (2, 0));
         }
@@ -517,15 +529,16 @@ fn numbers_of_no_blocks() {
     refused(Call::Encode, 0, &[], 269, (3, 0));
     refused(Call::Repair(0), 0, &[3; 270], 269, (3, 0));
     refused(Call::Trace(0), 0, &[3; 270], 269, (3, 0));
+    refused(Call::TraceWithin(0, 3), 0, &[3; 270], 269, (3, 0));
     refused(Call::Pack, 0, &[3; 270], 35, (3, 0));
     refused(Call::Unpack, 0, &[255; 36], 269, (3, 0));
     refused(Call::Unpack, 0, &bytes(36, &[(35, 1)]), 270, (8, 0));
     gives(0, Call::Pack, &[(15, 2), (40, 3)], number(4, 15));
     // 5 comes before 6, which goes by the table though no flags leave doubt.
-    both_give(0, 1 << 18 | 15, &[], number(5, 0));
-    both_give(0, 15, &[], number(6, 0));
-    both_give(0, 7, &[(45, 2)], number(6, 0));
-    both_give(0, (1 << 18) - 1, &[(15, 1)], number(6, 0));
+    all_give(0, 1 << 18 | 15, &[], number(5, 0));
+    all_give(0, 15, &[], number(6, 0));
+    all_give(0, 7, &[(45, 2)], number(6, 0));
+    all_give(0, (1 << 18) - 1, &[(15, 1)], number(6, 0));
 }
 
 /// A record or noise, with a damaged track or none and lost cells in up to three, and a flag word of up to three.
@@ -556,7 +569,9 @@ fn lost_cells() {
         let mut bits = image.clone();
         lost.iter().for_each(|&c| bits[c] = random.below(2) as u8);
         let before = random.bytes(image.len());
-        for call in [Call::Repair, Call::Trace] {
+        let within = |ceiling: u32| move |word: u32| Call::TraceWithin(word, ceiling);
+        let calls: [&dyn Fn(u32) -> Call<'static>; 5] = [&Call::Repair, &Call::Trace, &within(0), &within(1), &within(2)];
+        for call in calls {
             let (answer, out) = expected(call(word), blocks, &image, &before);
             let (same, record) = expected(call(wide), blocks, &bits, &before);
             assert_eq!([answer.answer, answer.extra_a, answer.extra_b], [same.answer, same.extra_a, same.extra_b]);
@@ -585,13 +600,150 @@ fn no_lost_cells() {
         image.iter_mut().filter(|x| **x == 2).for_each(|x| *x = 1);
         let before = random.bytes(image.len());
         let unknown = rules.flagged(word);
-        for (call, choices) in [(Call::Repair(word), vec![0]), (Call::Trace(word), choices(rules.shape, word))] {
+        let of_table = choices(rules.shape, word, code(rules.shape, word));
+        for (call, choices) in [
+            (Call::Repair(word), vec![0]),
+            (Call::Trace(word), cautious_choices(rules.shape, word)),
+            (Call::TraceWithin(word, 2), of_table),
+        ] {
             let wanted = match code(rules.shape, word) {
                 0 => (number(6, 0), before.clone()),
                 _ => reached(rules, &unknown, &choices, &image, &before),
             };
             assert!(expected(call, blocks, &image, &before) == wanted, "{call:?}, blocks {blocks}");
         }
+    }
+}
+
+#[test]
+fn choices_of_extras() {
+    // Without flags: none, each track alone, and with ceiling 2 each track of A beside each of B.
+    let shape = Shape::base(1);
+    let count = |choices: &[u32], tracks: u32| choices.iter().filter(|choice| choice.count_ones() == tracks).count();
+    for (choices, wanted) in [
+        (choices_within(shape, 0, 0), [1, 0, 0]),
+        (choices_within(shape, 0, 1), [1, 18, 0]),
+        (choices_within(shape, 0, 2), [1, 18, 81]),
+        (cautious_choices(shape, 0), [1, 18, 0]),
+        // A flag in A, two in B, two in A; two in A and one in B.
+        (choices_within(shape, 4, 0), [1, 0, 0]),
+        (choices_within(shape, 4, 1), [1, 17, 0]),
+        (choices_within(shape, 4, 2), [1, 17, 0]),
+        (cautious_choices(shape, 4), [1, 17, 0]),
+        (choices_within(shape, 3 << 9, 1), [1, 9, 0]),
+        (choices_within(shape, 3 << 9, 2), [1, 9, 0]),
+        (choices_within(shape, 3, 2), [1, 9, 0]),
+        (cautious_choices(shape, 3), [1, 9, 0]),
+        (choices_within(shape, 3 | 1 << 9, 2), [1, 0, 0]),
+        (cautious_choices(shape, 3 | 1 << 9), [1, 0, 0]),
+        // Too many: not even none.
+        (choices_within(shape, 15, 2), [0, 0, 0]),
+    ] {
+        assert_eq!([0, 1, 2].map(|tracks| count(&choices, tracks)), wanted);
+        assert_eq!(choices.len(), wanted.iter().sum::<usize>());
+    }
+    // Two tracks are never of one set, and no choice has a flagged one.
+    let of = |choice: &u32, set: usize| (choice & shape.word(set)).count_ones();
+    assert!(choices_within(shape, 0, 2).iter().all(|choice| of(choice, 0) <= 1 && of(choice, 1) <= 1));
+    assert!(choices_within(shape, 1 << 5, 2).iter().all(|choice| choice & 1 << 5 == 0));
+    // Of every flag word: a lower ceiling's are among a higher one's, and those of 1 are those without a ceiling.
+    for flags in 0..1 << 18 {
+        if code(shape, flags) != 0 {
+            let [none, one, two] = [0, 1, 2].map(|ceiling| choices_within(shape, flags, ceiling));
+            assert!(none == [0] && one == cautious_choices(shape, flags), "flags {flags:#x}");
+            assert!(two == choices(shape, flags, code(shape, flags)) && one.iter().all(|c| two.contains(c)), "flags {flags:#x}");
+        }
+    }
+}
+
+// One block again: A1 begins at 23, A2 at 46, A3 at 69, B0 at 207, B1 at 230, B3 at 276.
+
+#[test]
+fn ceiling_examples() {
+    // No flags: a good record with each ceiling, one wrong track from ceiling 1 on, one in each set with 2, two of a set never.
+    all_give(1, 0, &[], filled(0, 0));
+    in_reach_from(1, 1, 0, &[(23, 1)], Answer { extra_a: 1, ..filled(2, 1) });
+    in_reach_from(1, 1, 0, &[(276, 1), (298, 1)], Answer { extra_b: 12, ..filled(1 << 12, 2) });
+    in_reach_from(2, 1, 0, &[(23, 1), (276, 1)], Answer { extra_a: 1, extra_b: 12, ..filled(2 | 1 << 12, 2) });
+    in_reach_from(2, 1, 0, &[(206, 1), (413, 1)], Answer { extra_a: 8, extra_b: 17, ..filled(1 << 8 | 1 << 17, 2) });
+    all_give(1, 0, &[(23, 1), (46, 1)], number(7, 0));
+    // A flag in A, and a lost cell there in place of it: one extra in either set from ceiling 1 on, and never two.
+    for (flags, cell) in [(2, 1), (0, 2), (2, 2)] {
+        all_give(1, flags, &[(23, cell)], filled(2, 1));
+        in_reach_from(1, 1, flags, &[(23, cell), (69, 1)], Answer { extra_a: 3, ..filled(10, 2) });
+        in_reach_from(1, 1, flags, &[(23, cell), (207, 1)], Answer { extra_b: 9, ..filled(2 | 1 << 9, 2) });
+        all_give(1, flags, &[(23, cell), (69, 1), (207, 1)], number(7, 0));
+    }
+    // Two of A: an extra in B from ceiling 1 on, none in A. Two of B: the other way round. Two and one: none.
+    in_reach_from(1, 1, 6, &[(23, 1), (276, 1)], Answer { extra_b: 12, ..filled(2 | 1 << 12, 2) });
+    all_give(1, 6, &[(69, 1)], number(7, 0));
+    in_reach_from(1, 1, 3 << 9, &[(207, 1), (69, 1)], Answer { extra_a: 3, ..filled(8 | 1 << 9, 2) });
+    all_give(1, 3 << 9, &[(276, 1)], number(7, 0));
+    all_give(1, 6 | 1 << 9, &[(69, 1)], number(7, 0));
+    // A wrong track in each set, of which one is flagged; a flag on a third makes them one too many.
+    in_reach_from(1, 1, 2, &[(23, 1), (276, 1)], Answer { extra_b: 12, ..filled(2 | 1 << 12, 2) });
+    all_give(1, 4, &[(23, 1), (276, 1)], number(7, 0));
+}
+
+#[test]
+fn numbers_of_ceilings() {
+    // 12 comes after 5 and before 6 and 7, for every ceiling above 2.
+    let image = bytes(414, &[(40, 3)]);
+    let wrong = bytes(414, &[(23, 1), (46, 1)]);
+    for ceiling in [3, 4, 255, 256, 257, 258, 65_537, 1 << 31, u32::MAX] {
+        let call = |flags: u32| Call::TraceWithin(flags, ceiling);
+        refused(call(1 << 18 | 15), 257, &image[1..], 413, (1, 0));
+        refused(call(1 << 18 | 15), 1, &image[1..], 413, (2, 0));
+        refused(call(1 << 18 | 15), 1, &image, 413, (3, 0));
+        refused(call(1 << 18 | 15), 1, &image, 414, (4, 40));
+        refused(call(1 << 18 | 15), 1, &wrong, 414, (5, 0));
+        refused(call(15), 1, &wrong, 414, (12, 0));
+        refused(call(0), 1, &wrong, 415, (12, 0));
+        refused(call(0), 1, &bytes(414, &[(0, 2), (23, 2), (46, 2), (69, 2)]), 414, (12, 0));
+        refused(call(0), 1, &[0; 414], 414, (12, 0));
+    }
+    // 6 goes by the flags and the lost cells, with each ceiling.
+    for ceiling in 0..=2 {
+        refused(Call::TraceWithin(15, ceiling), 1, &wrong, 414, (6, 0));
+        refused(Call::TraceWithin(7, ceiling), 1, &bytes(414, &[(69, 2)]), 414, (6, 0));
+    }
+}
+
+#[test]
+fn ceiling_2_is_the_former_tracing() {
+    // Documents 01 and 02 as they were, by hand: a wrong track in each set is found.
+    let mut after = vec![0; 414];
+    let both = Answer { extra_a: 1, extra_b: 12, ..filled(2 | 1 << 12, 2) };
+    assert_eq!(former_trace(0, 1, &bytes(414, &[(23, 1), (276, 1)]), &[9; 414]), (both, after.clone()));
+    after.push(9);
+    assert_eq!(former_trace(2, 1, &bytes(414, &[(23, 1)]), &[9; 415]), (filled(2, 1), after));
+    for (flags, blocks, cells, room, wanted) in [
+        (1 << 18, 257, 3, 413, number(1, 0)),
+        (1 << 18, 0, 3, 413, number(2, 0)),
+        (1 << 18, 1, 3, 413, number(3, 0)),
+        (1 << 18, 1, 3, 414, number(4, 23)),
+        (1 << 18, 1, 2, 414, number(5, 0)),
+        (13, 1, 2, 414, number(6, 0)),
+    ] {
+        assert_eq!(former_trace(flags, blocks, &bytes(414, &[(23, cells)]), &vec![9; room]), (wanted, vec![9; room]));
+    }
+    let two = bytes(414, &[(23, 1), (46, 1)]);
+    assert_eq!(former_trace(0, 1, &two, &[9; 414]), (number(7, 0), two));
+    // Of random images, the second decoder's three ceilings: 2 as it was, 1 as tracing without a ceiling, 0 as repair.
+    let mut random = Random::of("ceiling 2");
+    for _ in 0..rounds(2400) / 2 {
+        let blocks = random.below(4) as u32;
+        let shape = Shape::base(blocks);
+        let (mut image, word) = some_lost(&mut random, base(blocks));
+        let word = if random.below(2) == 0 { 0 } else { word };
+        let more = random.tracks(shape, 1) & !lost_tracks(shape, &image);
+        damage(&mut random, shape, &mut image, more);
+        let before = random.bytes(image.len());
+        let [none, one, two] = [0, 1, 2].map(|ceiling| expected(Call::TraceWithin(word, ceiling), blocks, &image, &before));
+        assert!(two == former_trace(word, blocks, &image, &before), "blocks {blocks}, flags {word:#x}");
+        assert!(one == expected(Call::Trace(word), blocks, &image, &before), "blocks {blocks}, flags {word:#x}");
+        assert!(none == expected(Call::Repair(word), blocks, &image, &before), "blocks {blocks}, flags {word:#x}");
+        assert!((none.0.answer == 7 || none == one) && (one.0.answer == 7 || one == two), "blocks {blocks}, flags {word:#x}");
     }
 }
 
