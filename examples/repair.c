@@ -5,8 +5,9 @@
  *     repair BLOCKS @TABLE IMAGE [OUT]
  *
  * BLOCKS and FLAGS are decimal numbers, IMAGE a file of one byte a cell. The program repairs by the flags, traces where
- * that finds no record, says what was changed, prints the payload as text and, where OUT is named, writes the repaired
- * image there. TABLE is a file of flagged stretches, an offset and a length a line: then it repairs by these.
+ * that finds no record, for one wrong track more that was not flagged, says what was changed, prints the payload as text
+ * and, where OUT is named, writes the repaired image there. TABLE is a file of flagged stretches, an offset and a length a
+ * line: then it repairs by these.
  */
 #include <axp.h>
 

@@ -55,15 +55,50 @@ done
 must 1 "$@" extract samples/week.axp 3
 says 'no entry 3'
 
-# Errors in one track of the last record, then in three of a set. Wednesday's record begins at byte 206, ten bytes a track.
+# Errors in one track of the last record, then in one of each set, by each ceiling. Wednesday's record begins at byte 206, ten bytes
+# a track, A0, B0, A1.
 put "$week" 211 '\252'
 must 0 "$@" extract "$week" 2
 same "$work/out" samples/wednesday.txt
 says 'cells changed A0'
+for ceiling in 1 2 0x2; do
+    must 0 "$@" extract -c "$ceiling" "$week" 2 "$work/payload"
+    same "$work/payload" samples/wednesday.txt
+    says 'cells changed A0'
+done
+must 1 "$@" extract -c 0 "$week" 2
+says 'no good record is in reach (answer 7)'
+must 0 "$@" extract -c 0 "$week" 0
+same "$work/out" samples/monday.txt
+put "$week" 221 '\252'
+for ceiling in '' '-c 0' '-c 1'; do
+    must 1 "$@" extract $ceiling "$week" 2 "$work/none"
+    says 'no good record is in reach (answer 7)'
+done
+must 0 "$@" extract -c 2 "$week" 2
+same "$work/out" samples/wednesday.txt
+says 'cells changed A0 B0'
+for ceiling in 3 256 4294967295; do
+    for index in 0 2; do
+        must 1 "$@" extract -c "$ceiling" "$week" "$index" "$work/none"
+        says 'the ceiling is above 2 (answer 12)'
+    done
+done
+[ -e "$work/none" ] && { echo 'axp-file.sh: a refused payload was written'; exit 1; }
+must 1 "$@" extract -c 3 "$week" 3
+says 'no entry 3'
+# A ceiling that is no number, or stands elsewhere.
+for arguments in "-c $week 2" "-c" "-c 2" "-c 2 $week" "-c two $week 2" "-c -1 $week 2" "-c 4294967296 $week 2" "$week 2 -c 2" "$week -c 2 2"; do
+    must 2 "$@" extract $arguments
+    says 'usage: axp-file'
+done
+# In three tracks of a set.
 put "$week" 231 '\252'
 put "$week" 251 '\252'
-must 1 "$@" extract "$week" 2
-says 'no good record is in reach (answer 7)'
+for ceiling in '' '-c 0' '-c 1' '-c 2'; do
+    must 1 "$@" extract $ceiling "$week" 2
+    says 'no good record is in reach (answer 7)'
+done
 # A padding bit is the packed record's matter, not the file's.
 put "$week" 215 '\377'
 must 0 "$@" list "$week"

@@ -1,9 +1,10 @@
 /*
  * Lists, fills and reads cartridge files. A program over the library, not proved; what the library's calls answer is.
  *
- *     axp-file list FILE                  its entries: index, key, blocks, offset, length, bytes of payload
- *     axp-file add FILE KEY=PAYLOAD...    encodes each payload file and adds its record behind the entries that are there
- *     axp-file extract FILE INDEX [OUT]   writes an entry's payload to OUT, or to standard output
+ *     axp-file list FILE                              its entries: index, key, blocks, offset, length, bytes of payload
+ *     axp-file add FILE KEY=PAYLOAD...                encodes each payload file and adds its record behind the entries that are there
+ *     axp-file extract [-c CEILING] FILE INDEX [OUT]  writes an entry's payload to OUT, or to standard output; a record with errors is
+ *                                                     traced with this ceiling, or with 1
  *
  * man/axp-file.1 says more. Exit status: 0, 1 where the library refuses (its answer is told), 2 for the command line and for files that
  * cannot be read or written.
@@ -25,7 +26,7 @@ static int usage(void)
 {
     fprintf(stderr, "usage: axp-file list FILE\n"
                     "       axp-file add FILE KEY=PAYLOAD...\n"
-                    "       axp-file extract FILE INDEX [OUT]\n");
+                    "       axp-file extract [-c CEILING] FILE INDEX [OUT]\n");
     return FAILED;
 }
 
@@ -187,7 +188,7 @@ static int add(const char *path, int count, char **texts)
     return replace(path, written, w.length) ? 0 : failed(path);
 }
 
-static int extract(const char *path, const char *index, const char *out)
+static int extract(uint32_t ceiling, const char *path, const char *index, const char *out)
 {
     size_t length = load(path, file, sizeof file), size;
     uint32_t i, blocks;
@@ -209,7 +210,7 @@ static int extract(const char *path, const char *index, const char *out)
     size = AXP_PAYLOAD_SIZE(blocks);
     r = axp_unpack(blocks, file + s.offset + 6, s.length - 6, image, sizeof image);
     if (r.answer == AXP_OK)
-        r = axp_trace(blocks, 0, image, AXP_IMAGE_SIZE(blocks), mended, sizeof mended);
+        r = axp_trace_within(blocks, 0, ceiling, image, AXP_IMAGE_SIZE(blocks), mended, sizeof mended);
     if (r.answer != AXP_OK)
         return refused(path, r.answer);
     if (r.cells > 0) {
@@ -229,11 +230,20 @@ static int extract(const char *path, const char *index, const char *out)
 
 int main(int argc, char **argv)
 {
+    uint32_t ceiling = 1;
     if (argc == 3 && strcmp(argv[1], "list") == 0)
         return list(argv[2]);
     if (argc > 3 && strcmp(argv[1], "add") == 0)
         return add(argv[2], argc - 3, argv + 3);
-    if ((argc == 4 || argc == 5) && strcmp(argv[1], "extract") == 0)
-        return extract(argv[2], argv[3], argv[4]);
+    if (argc > 2 && strcmp(argv[1], "extract") == 0) {
+        if (strcmp(argv[2], "-c") == 0) {
+            if (argc < 4 || !number(argv[3], '\0', &ceiling))
+                return usage();
+            argc -= 2;
+            argv += 2;
+        }
+        if (argc == 4 || argc == 5)
+            return extract(ceiling, argv[2], argv[3], argv[4]);
+    }
     return usage();
 }
