@@ -142,6 +142,7 @@ fn constants() {
     assert!(files.contains("directory-size count = 2 + 8 * count\n"));
     assert!(header.contains("#define AXP_DIRECTORY_SIZE(k) (2 + 8 * (size_t)(k))\n"));
     // The ceilings are 0 to 2.
+    assert!(file("crates/code/specs/Numbers.antt").contains("number = 12; detail = 0; applies = 2 < ceiling }\n"));
     assert!(header.contains("#define AXP_MAX_CEILING 2\n"));
     // The numbers are document 01's, 0 to 7 in order, and 8 to 12 of document 02.
     let list = folded(between(&header, "enum axp_answer {", "};"));
