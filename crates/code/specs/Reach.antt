@@ -42,19 +42,20 @@ reach-code a b = look-up rows a b
 unfoldable pub flags-code : Shape → TrackFlags → ℕ
 flags-code sh f = reach-code (flag-count sh f A) (flag-count sh f B)
 
--- A reach is how many extra tracks are allowed, in A, in B and in all: here those of a code.
+-- A reach is how many extra tracks are allowed: in A, in B and in all. Those of a code, by codes 0 to 5:
 abbrev pub code-reach : ℕ → Reach
 code-reach code =
     record {
-      -- By code:  0   1   2   3   4   5
       a = getD (0 ∷ 0 ∷ 1 ∷ 0 ∷ 1 ∷ 1 ∷ []) code 0;
       b = getD (0 ∷ 0 ∷ 0 ∷ 1 ∷ 1 ∷ 1 ∷ []) code 0;
       all = getD (0 ∷ 0 ∷ 1 ∷ 1 ∷ 1 ∷ 2 ∷ []) code 0;
     }
 
+-- Those of the table beside these flags.
 abbrev pub table-reach : Shape → TrackFlags → Reach
 table-reach sh f = code-reach (flags-code sh f)
 
+-- Those of a set.
 abbrev pub most-in : Reach → TrackSet → ℕ
 most-in w A = w .a
 most-in w B = w .b
@@ -108,7 +109,8 @@ pub record Ambiguous (sh : Shape) (f : TrackFlags) : Type 0 where
 
 -- ## Document 02, note 7: which extras the tracing calls allow
 
--- "A second tracing call takes a ceiling": so many extras in all.
+-- "A second tracing call takes a ceiling: 0 no extras, 1 one in all, 2 the table of document 01." It is so many extras in all, and the
+-- table never allows more than 2.
 abbrev pub ceiling-reach : ℕ → Reach
 ceiling-reach ceiling = record { a = ceiling; b = ceiling; all = ceiling }
 
