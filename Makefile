@@ -23,6 +23,7 @@ SOURCES = crates.txt $(shell find crates -name '*.rt' -o -name '*.antt')
 SAMPLE = 16 36900 samples/damaged.img
 LOST_SAMPLE = 16 0 samples/lost.img
 STRETCH_SAMPLE = 16 @samples/stretches.txt samples/stretches.img
+UNFLAGGED_SAMPLE = 16 0,2 samples/unflagged.img
 
 WEEK = 20261116=samples/monday.txt 20261117=samples/tuesday.txt 20261118=samples/wednesday.txt
 
@@ -64,13 +65,14 @@ demo: build/repair build/picture build/axp-file
 	build/repair $(SAMPLE)
 	build/repair $(LOST_SAMPLE)
 	build/repair $(STRETCH_SAMPLE)
+	build/repair $(UNFLAGGED_SAMPLE)
 	build/axp-file list samples/week.axp
 	build/axp-file extract samples/week.axp 0
 	build/picture $(SAMPLE) >build/picture.svg
 	@echo 'the record by track and position, damaged and repaired: build/picture.svg'
 
 sample: build/sample build/axp-file
-	build/sample samples/text.txt samples/good.img samples/damaged.img samples/lost.img samples/stretches.img samples/stretches.txt
+	build/sample samples/text.txt samples/good.img samples/damaged.img samples/lost.img samples/stretches.img samples/stretches.txt samples/unflagged.img
 	rm -f samples/week.axp
 	build/axp-file add samples/week.axp $(WEEK)
 

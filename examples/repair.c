@@ -1,13 +1,13 @@
 /*
  * Repairs one image: the README's example.
  *
- *     repair BLOCKS FLAGS IMAGE [OUT]
+ *     repair BLOCKS FLAGS[,CEILING] IMAGE [OUT]
  *     repair BLOCKS @TABLE IMAGE [OUT]
  *
- * BLOCKS and FLAGS are decimal numbers, IMAGE a file of one byte a cell. The program repairs by the flags, traces where
- * that finds no record, for one wrong track more that was not flagged, says what was changed, prints the payload as text
- * and, where OUT is named, writes the repaired image there. TABLE is a file of flagged stretches, an offset and a length a
- * line: then it repairs by these.
+ * BLOCKS, FLAGS and CEILING are decimal numbers, IMAGE a file of one byte a cell. The program repairs by the flags, traces
+ * where that finds no record, for as many wrong tracks that were not flagged as CEILING allows, or one, says what was
+ * changed, prints the payload as text and, where OUT is named, writes the repaired image there. TABLE is a file of flagged
+ * stretches, an offset and a length a line: then it repairs by these.
  */
 #include <axp.h>
 
@@ -32,13 +32,29 @@ static void show(const char *call, axp_result r)
     printf("\n");
 }
 
-/* A decimal number: strtoul has 0 for any other text, and 0 is a block count. */
-static int number(const char *text, uint32_t *value)
+/* A decimal number and the text behind it, or NULL: strtoul has 0 for any other text, and 0 is a block count. */
+static const char *number(const char *text, uint32_t *value)
 {
     char *end;
     unsigned long n = strtoul(text, &end, 10);
     *value = (uint32_t)n;
-    return *text >= '0' && *text <= '9' && *end == '\0' && n <= UINT32_MAX;
+    return *text >= '0' && *text <= '9' && n <= UINT32_MAX ? end : NULL;
+}
+
+/* A block count. */
+static int is_count(const char *text, uint32_t *blocks)
+{
+    const char *rest = number(text, blocks);
+    return rest && *rest == '\0';
+}
+
+/* Flags, and a ceiling behind a comma. */
+static int are_flags(const char *text, uint32_t *flags, uint32_t *ceiling)
+{
+    const char *rest = number(text, flags);
+    if (rest && *rest == ',')
+        rest = number(rest + 1, ceiling);
+    return rest && *rest == '\0';
 }
 
 /* The pairs of a file, or -1. Of more than a table may have, one more is read. */
@@ -65,14 +81,14 @@ static int table(const char *path)
 
 int main(int argc, char **argv)
 {
-    uint32_t blocks, flags = 0;
+    uint32_t blocks, flags = 0, ceiling = 1;
     size_t length, i;
     int pairs = 0, by_table = argc > 2 && argv[2][0] == '@';
     axp_result r;
     FILE *file;
 
-    if (argc < 4 || !number(argv[1], &blocks) || !(by_table || number(argv[2], &flags))) {
-        fprintf(stderr, "usage: repair BLOCKS FLAGS|@TABLE IMAGE [OUT]\n");
+    if (argc < 4 || !is_count(argv[1], &blocks) || !(by_table || are_flags(argv[2], &flags, &ceiling))) {
+        fprintf(stderr, "usage: repair BLOCKS FLAGS[,CEILING]|@TABLE IMAGE [OUT]\n");
         return 2;
     }
     if (by_table && (pairs = table(argv[2] + 1)) < 0)
@@ -91,7 +107,8 @@ int main(int argc, char **argv)
         r = axp_repair(blocks, flags, image, length, out, sizeof out);
     show("repair", r);
     if (r.answer == AXP_NO_RECORD && !by_table) {
-        r = axp_trace(blocks, flags, image, length, out, sizeof out);
+        /* With ceiling 1 this is axp_trace. */
+        r = axp_trace_within(blocks, flags, ceiling, image, length, out, sizeof out);
         show("trace", r);
     }
     if (r.answer != AXP_OK)

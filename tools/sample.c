@@ -1,12 +1,13 @@
 /*
  * Makes the samples: the image of a text, with damage that a drive does.
  *
- *     sample TEXT GOOD DAMAGED LOST STRETCHES TABLE
+ *     sample TEXT GOOD DAMAGED LOST STRETCHES TABLE UNFLAGGED
  *
  * TEXT is encoded, padded with spaces to whole blocks. GOOD is its image. In DAMAGED two tracks of set A hold noise, a
  * track of set B has a burst and another reads 0 for a while. In LOST a burst of cells in a track of each set, and the last
  * cell of another of A, could not be read. In STRETCHES nine tracks were distrusted for a while and hold noise there, never
- * more at a time than can be repaired; TABLE has the stretches, an offset and a length a line.
+ * more at a time than can be repaired; TABLE has the stretches, an offset and a length a line. In UNFLAGGED a track of each set
+ * holds noise, and nobody says which.
  */
 #include <axp.h>
 
@@ -58,8 +59,8 @@ int main(int argc, char **argv)
     size_t length, l, m, size;
     uint32_t blocks;
     FILE *f;
-    if (argc != 7 || !(f = fopen(argv[1], "rb"))) {
-        fprintf(stderr, "usage: sample TEXT GOOD DAMAGED LOST STRETCHES TABLE\n");
+    if (argc != 8 || !(f = fopen(argv[1], "rb"))) {
+        fprintf(stderr, "usage: sample TEXT GOOD DAMAGED LOST STRETCHES TABLE UNFLAGGED\n");
         return 2;
     }
     memset(payload, ' ', sizeof payload);
@@ -88,6 +89,12 @@ int main(int argc, char **argv)
         return 1;
     axp_encode(blocks, payload, AXP_PAYLOAD_SIZE(blocks), image, sizeof image);
     if (blocks < 16 || !save_stretches(argv[5], argv[6], l, size))
+        return 1;
+    for (m = 0; m < l; m++) {
+        image[6 * l + m] ^= bit();
+        image[(9 + 2) * l + m] ^= bit();
+    }
+    if (!save(argv[7], image, size))
         return 1;
     printf("%lu blocks\n", (unsigned long)blocks);
     return 0;
