@@ -252,8 +252,10 @@ pub fn trace_within(blocks: u32, flags: u32, ceiling: u32, image: &[u8], out: &m
 {
     let seen = repair::check(blocks, flags, image, out.len());
     let refused = seen.answer;
-    if refused.number != 0 {
-        return plain_answer(refused.number, refused.detail);
+    let number = refused.number;
+    let detail = refused.detail;
+    if number != 0 {
+        return plain_answer(number, detail);
     }
     let n = blocks as usize;
     let z = Sizes {

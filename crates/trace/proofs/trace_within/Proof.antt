@@ -20,18 +20,18 @@ use Rattle.trace.proofs.trace_within.Statement.{statement}
 use Rattle.trace.proofs.trace_within.Tie as tie
 
 -- Past numbers 1 to 5.
-passes : (c : tie.Else1) → let a = c .before .before .before .before .before .before .args in Passed (early-checks read-values (base (a .blocks)) (a .blocks) (a .flags) (now (a .image)) (length (now (a .out))))
-passes c = let a = c .before .before .before .before .before .before .args in passed (base (a .blocks)) _ _ _ _ _ (c .before .before .before .check .ensures .0) (c .if1 .left)
+passes : (c : tie.Else1) → let a = c .before .before .before .before .before .args in Passed (early-checks read-values (base (a .blocks)) (a .blocks) (a .flags) (now (a .image)) (length (now (a .out))))
+passes c = let a = c .before .before .before .before .before .args in passed (base (a .blocks)) _ _ _ _ _ (c .before .before .check .ensures .0) (c .if1 .left)
 
 -- Past 6.
-coded : (c : tie.Else3) → let a = c .before .before .before .before .before .before .before .before .before .before .before .args in flags-code (base (a .blocks)) (marked (base (a .blocks)) (c .before .before .before .before .call-marks .result)) ≢ 0
+coded : (c : tie.Else3) → let a = c .before .before .before .before .before .before .before .before .before .before .args in flags-code (base (a .blocks)) (marked (base (a .blocks)) (c .before .before .before .before .call-marks .result)) ≢ 0
 coded c e = c .if3 .left (c .before .before .code-of .ensures ∙ e)
 
 -- The reach, by the marks.
-reach-is : (c : tie.After-reach-within) → let a = c .before .before .before .before .before .before .before .before .before .before .before .before .args in
+reach-is : (c : tie.After-reach-within) → let a = c .before .before .before .before .before .before .before .before .before .before .before .args in
     c .reach-within .result ≡ both (code-reach (flags-code (base (a .blocks)) (marked (base (a .blocks)) (c .before .before .before .before .before .call-marks .result)))) (ceiling-reach (a .ceiling))
 reach-is c =
-    let a = c .before .before .before .before .before .before .before .before .before .before .before .before .args in
+    let a = c .before .before .before .before .before .before .before .before .before .before .before .args in
     c .reach-within .ensures ∙ ap (λ k. both (code-reach k) (ceiling-reach (a .ceiling))) (c .before .before .before .code-of .ensures)
 
 check-requires : tie.Need-check-requires
@@ -41,7 +41,7 @@ plain-answer-requires : tie.Need-plain-answer-requires
 plain-answer-requires c κs = search needs
 
 returns : tie.Need-returns
-returns c = refused _ _ _ _ _ _ _ (c .before .before .before .before .check .ensures .0) (c .before .if1 .taken) (c .plain-answer .ensures)
+returns c = refused _ _ _ _ _ _ _ (c .before .before .before .check .ensures .0) (c .before .if1 .taken) (c .plain-answer .ensures)
 
 mul-reach-within : tie.Need-mul-reach-within
 mul-reach-within c = search needs
@@ -49,7 +49,7 @@ mul-reach-within c = search needs
 call-marks-requires : tie.Need-call-marks-requires
 call-marks-requires c κs =
     let p = passes c in
-    (small _ _ _ _ p, (read-image _ _ _ _ p, c .before .before .before .check .ensures .1 (c .if1 .left)))
+    (small _ _ _ _ p, (read-image _ _ _ _ p, c .before .before .check .ensures .1 (c .if1 .left)))
 
 slice-aggregate-code-of : tie.Need-slice-aggregate-code-of
 slice-aggregate-code-of c = search needs
@@ -92,7 +92,7 @@ trace-record-requires : tie.Need-trace-record-requires
 trace-record-requires c κs =
     let e = c .before .before .before .before .before .before .before in (
       given _ _ _ _ (passes e) _ (c .before .before .before .before .before .before .call-marks .ensures) (coded (c .before .before)),
-      (both-below _ _ _ (reach-is (c .before)), e .before .before .before .check .ensures .1 (e .if1 .left)),
+      (both-below _ _ _ (reach-is (c .before)), e .before .before .check .ensures .1 (e .if1 .left)),
     )
 
 same-length : tie.Need-same-length
