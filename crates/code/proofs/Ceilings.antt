@@ -1,5 +1,5 @@
 -- Tracing with a ceiling (document 02, note 7): what 0, 1 and 2 come to, and that a higher one finds what a lower one finds.
-use mathlib.Core.Path.{_≡_, sym, ap, subst, _∙_}
+use mathlib.Core.Path.{_≡_, sym, ap, subst}
 use mathlib.Core.Logic.{inl, inr, _↔_}
 use mathlib.Core.List.{List, [], _∷_}
 use Prim.Native.Nat.{ℕ, _<_, _≤_}
@@ -9,11 +9,11 @@ use Rattle.code.specs.Record.{Shape, base}
 use Rattle.code.specs.Image.{cells}
 use Rattle.code.specs.Flags.{TrackFlags, whole}
 use Rattle.code.specs.Lost.{read-values}
-use Rattle.code.specs.Reach.{flags-code, table-reach, none, ceiling-reach, both, cautious, within, traced-reach}
+use Rattle.code.specs.Reach.{flags-code, table-reach, none, ceiling-reach, cautious, within, traced-reach}
 use Rattle.code.specs.Numbers.{Check, First, ceiling-check, reach-check}
 use Rattle.code.specs.Calls.{Result, Refused, Answered, early-checks, repair-checks, RepairNear, Repairs, TraceNear, trace-named, Traces}
 use Rattle.code.specs.Contracts.{call-flags, TracedWithin}
-use Rattle.code.specs.Supply.{repair, trace, Ceilings}
+use Rattle.code.specs.Supply.{repair, Ceilings}
 use Rattle.code.specs.declared.Reach.{Reach}
 use Rattle.code.proofs.Mending.{near-names}
 use Rattle.code.proofs.Numbers.{answer-of, first-append, first-rest, first-map, first-without, first-given, unrefused}

@@ -10,7 +10,6 @@ use Rattle.code.specs.Lost.{read-values}
 use Rattle.code.specs.Reach.{flags-code, code-reach, ceiling-reach, both}
 use Rattle.code.specs.Numbers.{Passed}
 use Rattle.code.specs.Calls.{early-checks}
-use Rattle.code.specs.declared.Reach.{Reach}
 use Rattle.code.proofs.Codes.{flags-small}
 use Rattle.solver.specs.Solver.{marked}
 use Rattle.repair.proofs.Calling.{passed, small, read-image, has-room, given}
