@@ -5,7 +5,7 @@ use mathlib.Core.List.{List, [], _∷_}
 use Prim.Native.Nat.{ℕ, _<_, _≤_}
 use native.Mathlib.Omega.{arith}
 use lib.ListN.{length}
-use Rattle.code.specs.Record.{Shape, base}
+use Rattle.code.specs.Record.{Shape, base, Cells}
 use Rattle.code.specs.Image.{cells}
 use Rattle.code.specs.Flags.{TrackFlags, whole}
 use Rattle.code.specs.Lost.{read-values}
@@ -52,6 +52,9 @@ module _ (n word : ℕ) (image before : List ℕ) where
   abbrev capped : ℕ → Reach
   capped ceiling = traced-reach (within ceiling) sh f
 
+  agreeing : (y : Cells) → TraceNear sh (capped 0) f image y ↔ RepairNear sh (whole f) image y
+  agreeing y = at-none (table-reach sh f) sh f (cells sh image) y
+
   module _ (r : Result) (after : List ℕ) where
     -- A ceiling up to 2 passes.
     taken : (ceiling : ℕ) → ceiling ≤ 2 → TracedWithin n word ceiling image before r after ↔ Checked (Traces sh (capped ceiling) f image before) r after
@@ -70,18 +73,12 @@ module _ (n word : ℕ) (image before : List ℕ) where
 
     -- Without extras tracing is repair, and names none.
     as-repair : Traces sh (capped 0) f image before r after → Repairs sh (whole f) image before r after
-    as-repair (inl a) =
-        let agree = at-none (table-reach sh f) sh f _ _ .0 (a .reached) in
-        mended-as sh image before r after (TraceNear sh (capped 0) f image) (RepairNear sh (whole f) image) (trace-named sh f image) (λ _ _. none)
-        (λ y. at-none (table-reach sh f) sh f _ y .0) (λ y. at-none (table-reach sh f) sh f _ y .1)
-        (λ s. sym (near-names sh f image repair after agree s)) (inl a)
-    as-repair (inr a) = inr (record { no-record = λ y g m. a .no-record y g (at-none (table-reach sh f) sh f _ y .1 m); copy = a .copy; stays = a .stays; result = a .result })
+    as-repair = mended-as sh image before r after (TraceNear sh (capped 0) f image) (RepairNear sh (whole f) image) (trace-named sh f image) (λ _ _. none)
+        (λ y. agreeing y .0) (λ y. agreeing y .1) (λ m s. sym (near-names sh f image repair after (agreeing _ .0 m) s))
 
     from-repair : Repairs sh (whole f) image before r after → Traces sh (capped 0) f image before r after
-    from-repair (inl a) = mended-as sh image before r after (RepairNear sh (whole f) image) (TraceNear sh (capped 0) f image) (λ _ _. none) (trace-named sh f image)
-        (λ y. at-none (table-reach sh f) sh f _ y .1) (λ y. at-none (table-reach sh f) sh f _ y .0)
-        (near-names sh f image repair after (a .reached)) (inl a)
-    from-repair (inr a) = inr (record { no-record = λ y g m. a .no-record y g (at-none (table-reach sh f) sh f _ y .0 m); copy = a .copy; stays = a .stays; result = a .result })
+    from-repair = mended-as sh image before r after (RepairNear sh (whole f) image) (TraceNear sh (capped 0) f image) (λ _ _. none) (trace-named sh f image)
+        (λ y. agreeing y .1) (λ y. agreeing y .0) (near-names sh f image repair after)
 
   pub ceilings : Ceilings n word image before
   ceilings = record {

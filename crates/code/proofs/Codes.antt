@@ -104,6 +104,7 @@ pub code-past : (sh : Shape) (f : TrackFlags) → flags-code sh f ≡ 0 → With
 unfolding flags-code
 code-past sh f e w = coded _ _ (w .in-set A) (w .in-set B) (w .in-all) e
 
+-- It is 0 to 5.
 pub flags-small : (sh : Shape) (f : TrackFlags) → flags-code sh f ≤ 5
 unfolding flags-code
 flags-small sh f = code-small (flag-count sh f A) (flag-count sh f B)

@@ -13,7 +13,7 @@ use Rattle.code.specs.Image.{image-size, cells}
 use Rattle.code.specs.Payload.{payload-size}
 use Rattle.code.specs.Flags.{TrackFlags, whole, word-flags, bit, flag-count}
 use Rattle.code.specs.Lost.{bit-values, read-values, is-lost, with-lost}
-use Rattle.code.specs.Reach.{Tracing, traced-reach}
+use Rattle.code.specs.Reach.{Tracing, cautious, traced-reach}
 use Rattle.code.specs.Numbers.{Check, first-bad, size-checks, flag-check, reach-check}
 use Rattle.code.specs.Calls.{Answered, ReadOrNot, ceiling-checks, Repairs, Traces}
 use Rattle.code.specs.Contracts.{call-flags}
@@ -69,15 +69,12 @@ module _ (image : List ℕ) (h : NoneLost image) where
       or-off true = refl
 
   module _ (n : ℕ) (before : List ℕ) where
-    -- The checks by the first bad cell, and the flags.
+    -- The checks by the first bad cell, and the flags. Those of repair are those of tracing without a ceiling.
     abbrev cell-checks : ℕ → ℕ → List {1} Check
     cell-checks size k = size-checks n (image-size (base n)) (length image) size (length before) ++ (record { number = 4; detail = k; applies = k < length image } ∷ [])
 
-    abbrev checks : ℕ → ℕ → TrackFlags → List {1} Check
-    checks word k f = (cell-checks (image-size (base n)) k ++ (flag-check (base n) word ∷ [])) ++ (reach-check (base n) f ∷ [])
-
-    abbrev traced-checks : Tracing → ℕ → ℕ → TrackFlags → List {1} Check
-    traced-checks way word k f =
+    abbrev checks : Tracing → ℕ → ℕ → TrackFlags → List {1} Check
+    checks way word k f =
         ((cell-checks (image-size (base n)) k ++ (flag-check (base n) word ∷ [])) ++ ceiling-checks way) ++ (reach-check (base n) f ∷ [])
 
     -- Number 4 has the same condition and the same detail, and the same tracks are flagged.
@@ -87,6 +84,6 @@ module _ (image : List ℕ) (h : NoneLost image) where
     pub as-before : AsBefore n image before
     as-before = record {
       read = λ r after. same 0 (λ k f. Answered (cell-checks (payload-size (base n) n) k) (ReadOrNot (base n) n image before) before r after);
-      repair = λ word r after. same word (λ k f. Answered (checks word k f) (Repairs (base n) (whole f) image before) before r after);
-      trace = λ way word r after. same word (λ k f. Answered (traced-checks way word k f) (Traces (base n) (traced-reach way (base n) f) f image before) before r after);
+      repair = λ word r after. same word (λ k f. Answered (checks cautious word k f) (Repairs (base n) (whole f) image before) before r after);
+      trace = λ way word r after. same word (λ k f. Answered (checks way word k f) (Traces (base n) (traced-reach way (base n) f) f image before) before r after);
     }

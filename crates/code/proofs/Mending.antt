@@ -1,14 +1,13 @@
 -- Repair and tracing with flagged tracks, for any closed shape and any checks before that of the flags.
-use mathlib.Core.Path.{_≡_, refl, sym, _∙_}
+use mathlib.Core.Path.{_≡_, refl, sym}
 use mathlib.Core.Logic.{_≢_}
-use mathlib.Core.Bool.{Bool, true, false, _||_}
 use mathlib.Core.List.{List, [], _∷_, _++_}
 use Prim.Native.Nat.{ℕ, _+_, _<_}
 use native.Mathlib.Omega.{arith}
 use Rattle.code.specs.Record.{TrackSet, A, B, Shape, closed-tail, tracks, lag, Cells, Same}
 use Rattle.code.specs.Image.{cells}
-use Rattle.code.specs.Flags.{TrackFlags, whole, flag-count, AgreeOff, Within}
-use Rattle.code.specs.Reach.{flags-code, table-reach, Extra, none, Choice, with-extras, AtMostOne, Ambiguous, traced-reach}
+use Rattle.code.specs.Flags.{TrackFlags, flag-count, Within}
+use Rattle.code.specs.Reach.{flags-code, table-reach, Extra, none, AtMostOne, Ambiguous, traced-reach}
 use Rattle.code.specs.Numbers.{Check, reach-check}
 use Rattle.code.specs.Calls.{Result, Answered, Mended, trace-named}
 use Rattle.code.specs.Supply.{Mending, repair, trace, near-by, Point3, tracks-allowed, Values}
@@ -19,7 +18,7 @@ use Rattle.code.proofs.Masks.{unchanged-in}
 use Rattle.code.proofs.Named.{none-named}
 use Rattle.code.proofs.Numbers.{Avoids, each-append, passed-last}
 use Rattle.code.proofs.Reached.{repaired-unique, reached-unique}
-use Rattle.code.proofs.Reaches.{room-less, below-table}
+use Rattle.code.proofs.Reaches.{room-less, no-extra, agree-none, agree-reached, below-table}
 use Rattle.code.proofs.TooMany.{too-many}
 use Rattle.code.proofs.Values.{Chosen, call-values}
 
@@ -31,13 +30,6 @@ names-by (trace way) sh f image after s = trace-named sh f image after s
 -- Both calls are of this form.
 abbrev pub Mends : Mending → Shape → TrackFlags → List ℕ → List ℕ → Result → List ℕ → Type 0
 Mends way sh f image = Mended sh (near-by way sh f image) (names-by way sh f image) image
-
-no-extra : Choice
-no-extra s = none
-
-or-false : (b : Bool) → b || false ≡ b
-or-false true = refl
-or-false false = refl
 
 -- ## The records that are near
 
@@ -51,27 +43,16 @@ module _ (sh : Shape) (f : TrackFlags) (image : List ℕ) where
   one-near (trace way) c few room = reached-unique sh (traced-reach way sh f) f (cells sh image) c (room-less _ _ (below-table way sh f) _ _ room)
 
   -- A copy of the image.
-  copy-near : (way : Mending) (y : Cells) → Same sh (cells sh image) y → Near way y
-  copy-near repair y e = record { cell = λ s t m l b u. e .cell s t m l b }
-  copy-near (trace way) y e = record {
-    choice = λ s. none;
-    allowed = record {
-      in-set = λ s. omega arith;
-      in-all = omega arith;
-      track = λ s t w. let z : _≡_ {A = ℕ} 0 1 = cc in absurd (omega arith);
-      unflagged = λ s t w. let z : _≡_ {A = ℕ} 0 1 = cc in absurd (omega arith);
-    };
-    agree = record { cell = λ s t m l b u. e .cell s t m l b };
-  }
+  same-agrees : (y : Cells) → Same sh (cells sh image) y → Near repair y
+  same-agrees y e = record { cell = λ s t m l b u. e .cell s t m l b }
 
-  agree-none : (y : Cells) → AgreeOff sh (whole f) (cells sh image) y → AgreeOff sh (whole (with-extras f no-extra)) (cells sh image) y
-  unfolding no-extra
-  agree-none y a = record { cell = λ s t m l b e. a .cell s t m l b (sym (or-false (f s t)) ∙ e) }
+  copy-near : (way : Mending) (y : Cells) → Same sh (cells sh image) y → Near way y
+  copy-near repair y e = same-agrees y e
+  copy-near (trace way) y e = agree-reached sh (traced-reach way sh f) f (cells sh image) y (same-agrees y e)
 
   -- They differ in the tracks allowed.
   near-chosen : (way : Mending) (y : Cells) → Near way y → Chosen sh f (tracks-allowed way sh f) (cells sh image) y
-  unfolding no-extra
-  near-chosen repair y a = record { choice = no-extra; agree = agree-none y a; few = omega arith }
+  near-chosen repair y a = record { choice = no-extra; agree = agree-none sh f (cells sh image) y a; few = omega arith }
   near-chosen (trace way) y a = record { choice = a .choice; agree = a .agree; few = omega (arith, a .allowed .in-all) }
 
   -- Repair names none, as no unflagged track is changed.

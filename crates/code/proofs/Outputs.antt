@@ -59,14 +59,14 @@ module _ (sh : Shape) (image out part : List ℕ) (room : image-size sh ≤ leng
 -- ## The same records near
 
 module _ (sh : Shape) (image before : List ℕ) (r : Result) (after : List ℕ) where
-  -- The same records count as near, and the same extras are named.
+  -- The same records count as near, and the same extras are named where one is found.
   pub mended-as : (near near′ : Cells → Type 0) (named named′ : List ℕ → TrackSet → Extra) → ((y : Cells) → near y → near′ y) → ((y : Cells) → near′ y → near y) →
-      ((s : TrackSet) → named after s ≡ named′ after s) → Mended sh near named image before r after → Mended sh near′ named′ image before r after
+      (near (cells sh after) → (s : TrackSet) → named after s ≡ named′ after s) → Mended sh near named image before r after → Mended sh near′ named′ image before r after
   mended-as near near′ named named′ to from e (inl a) = inl (record {
     good = a .good;
     reached = to _ (a .reached);
     stays = a .stays;
-    result = a .result ∙ (λ i. mended sh (cells sh image) (cells sh after) (λ s. e s i));
+    result = a .result ∙ (λ i. mended sh (cells sh image) (cells sh after) (λ s. e (a .reached) s i));
   })
   mended-as near near′ named named′ to from e (inr a) = inr (record {
     no-record = λ y g n. a .no-record y g (from y n);

@@ -19,6 +19,8 @@ use Rattle.code.specs.Reach.{
   extra,
   size,
   is,
+  Choice,
+  with-extras,
   InReach,
   ceiling-reach,
   both,
@@ -63,6 +65,28 @@ module _ (v w : Reach) (less : Below v w) where
     in-b = omega (arith, room .in-b, less .in-b);
     in-all = omega (arith, room .in-all, less .in-all);
   }
+
+-- ## No extra
+
+abbrev pub no-extra : Choice
+no-extra s = none
+
+-- It flags nothing more.
+pub agree-none : (sh : Shape) (f : TrackFlags) (x y : Cells) → AgreeOff sh (whole f) x y → AgreeOff sh (whole (with-extras f no-extra)) x y
+agree-none sh f x y a = record { cell = λ s t m l b e. a .cell s t m l b (neither (f s t) false e .0) }
+
+-- A record that agrees off the flags is in every reach.
+pub agree-reached : (sh : Shape) (w : Reach) (f : TrackFlags) (x y : Cells) → AgreeOff sh (whole f) x y → InReach sh w f x y
+agree-reached sh w f x y a = record {
+  choice = no-extra;
+  allowed = record {
+    in-set = λ s. omega arith;
+    in-all = omega arith;
+    track = λ s t e. let z : _≡_ {A = ℕ} 0 1 = cc in absurd (omega arith);
+    unflagged = λ s t e. let z : _≡_ {A = ℕ} 0 1 = cc in absurd (omega arith);
+  };
+  agree = agree-none sh f x y a;
+}
 
 -- ## What two reaches both allow
 
@@ -172,16 +196,7 @@ size-none (extra u) t l = absurd (omega arith)
 pub at-none : (w : Reach) (sh : Shape) (f : TrackFlags) (x y : Cells) → InReach sh (both w (ceiling-reach 0)) f x y ↔ AgreeOff sh (whole f) x y
 at-none w sh f x y = (
   λ r. record { cell = λ s t m l b e. r .agree .cell s t m l b (ap₂ _||_ e (size-none (r .choice s) t (few r s))) },
-  λ a. record {
-    choice = λ s. none;
-    allowed = record {
-      in-set = λ s. omega arith;
-      in-all = omega arith;
-      track = λ s t e. let z : _≡_ {A = ℕ} 0 1 = cc in absurd (omega arith);
-      unflagged = λ s t e. let z : _≡_ {A = ℕ} 0 1 = cc in absurd (omega arith);
-    };
-    agree = record { cell = λ s t m l b e. a .cell s t m l b (neither (f s t) false e .0) };
-  },
+  agree-reached sh (both w (ceiling-reach 0)) f x y,
 )
   where
     few : (r : InReach sh (both w (ceiling-reach 0)) f x y) (s : TrackSet) → size (r .choice s) ≤ 0

@@ -100,10 +100,10 @@ module _ (n : ℕ) (table : Table) (image before : List ℕ) where
     to-cells y a = record { cell = λ s t m l b e. a .cell s t m l b (sym (on s t m l b) ∙ e) }
 
     by-tracks : Repairs sh flag image before r after → Repairs sh (whole f) image before r after
-    by-tracks = mended-as sh image before r after near (RepairNear sh (whole f) image) no-names no-names to-tracks to-cells (λ s. refl)
+    by-tracks = mended-as sh image before r after near (RepairNear sh (whole f) image) no-names no-names to-tracks to-cells (λ _ s. refl)
 
     by-cells : Repairs sh (whole f) image before r after → Repairs sh flag image before r after
-    by-cells = mended-as sh image before r after (RepairNear sh (whole f) image) near no-names no-names to-cells to-tracks (λ s. refl)
+    by-cells = mended-as sh image before r after (RepairNear sh (whole f) image) near no-names no-names to-cells to-tracks (λ _ s. refl)
 
   module _ (word : ℕ) where
     -- The checks that both calls begin with, and the two that follow.

@@ -86,7 +86,7 @@ module _ (sh : Shape) (table : Table) (image words : List ℕ) (c : CellsFlagged
   repairs-table before r after = mended-as sh image before r after (RepairNear sh (word-cells sh words) image) (RepairNear sh flag image) (λ _ _. none) (λ _ _. none)
       (λ y a. record { cell = λ s t m l b e. a .cell s t m l b (c .flags s t m l b ∙ e) })
       (λ y a. record { cell = λ s t m l b e. a .cell s t m l b (sym (c .flags s t m l b) ∙ e) })
-      (λ s. refl)
+      (λ _ s. refl)
 
 -- Where flagged cells alone differ, tracks with a flagged cell alone do.
 pub only-marked : (z : Sizes) (words marks image out : List ℕ) → OnlyFlagged z words image out → FlaggedMarked words marks → OnlyMarked z marks image out

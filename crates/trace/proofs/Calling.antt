@@ -32,7 +32,7 @@ traces-as : (sh : Shape) (image before : List ℕ) (r : Result) (after : List �
     Traces sh w f image before r after → Traces sh w g image before r after
 traces-as sh image before r after f g same w = mended-as sh image before r after (TraceNear sh w f image) (TraceNear sh w g image) (trace-named sh f image) (trace-named sh g image)
     (reach-same sh f g same w (cells sh image)) (reach-same sh g f (λ s t l. sym (same s t l)) w (cells sh image))
-    (λ s. changed-extra-same sh _ _ _ _ (own-cells sh image) (own-cells sh after) f g s (same s) (tracks sh s) (omega arith))
+    (λ _ s. changed-extra-same sh _ _ _ _ (own-cells sh image) (own-cells sh after) f g s (same s) (tracks sh s) (omega arith))
 
 -- What both allow is no more than what one allows.
 pub both-below : (w v u : Reach) → w ≡ both v u → Below w v
