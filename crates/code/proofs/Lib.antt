@@ -11,6 +11,7 @@ pub mod Reached
 pub mod Reaches
 pub mod Mono
 pub mod OneTrack
+pub mod Heads
 pub mod Determinant
 pub mod Pairs
 pub mod Peak

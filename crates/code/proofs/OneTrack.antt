@@ -21,6 +21,7 @@ use Rattle.code.specs.Record.{
   vertical,
 }
 use Rattle.code.specs.Image.{track-number}
+use Rattle.code.specs.Heads.{slope}
 use Rattle.code.proofs.Sums.{back-early, back-zero, sum-zero, sum-one}
 use Rattle.code.proofs.Mono.{mono, mono-hit, mono-miss}
 
@@ -67,27 +68,19 @@ put-zero A t f B v m z = refl
 put-zero B t f A v m z = refl
 put-zero B t f B v m z = rw z (omega arith)
 
--- By how many positions the diagonal of set d shifts track t of set s, if that is no vertical track.
-shift : Shape → TrackSet → TrackSet → ℕ → ℕ
-shift sh A A t = t
-shift sh A B t = lag sh - t
-shift sh B A t = lag sh - t
-shift sh B B t = t
-
--- The lag is the greatest shift.
-shift-small : (sh : Shape) (d s : TrackSet) (t : ℕ) → t ≤ data-tracks sh s → shift sh d s t ≤ lag sh
-unfolding shift
-shift-small sh A A t h = omega arith
-shift-small sh A B t h = omega arith
-shift-small sh B A t h = omega arith
-shift-small sh B B t h = omega arith
+-- The lag is the greatest slope.
+pub slope-small : (sh : Shape) (d s : TrackSet) (t : ℕ) → t ≤ data-tracks sh s → slope sh d s t ≤ lag sh
+slope-small sh A A t h = omega arith
+slope-small sh A B t h = omega arith
+slope-small sh B A t h = omega arith
+slope-small sh B B t h = omega arith
 
 -- How far before m the diagonal of set d at m meets track t of set s. The vertical track lies on no diagonal: no cell is so far back.
 pub offset : Shape → TrackSet → TrackSet → ℕ → ℕ
-offset sh d s t = ite (decLe t (data-tracks sh s)) (shift sh d s t) (track-length sh)
+offset sh d s t = ite (decLe t (data-tracks sh s)) (slope sh d s t) (track-length sh)
 
--- A track that is no vertical one is met at its shift.
-offset-in : (sh : Shape) (d s : TrackSet) (t : ℕ) → t ≤ data-tracks sh s → offset sh d s t ≡ shift sh d s t
+-- A track that is no vertical one is met at its slope.
+offset-in : (sh : Shape) (d s : TrackSet) (t : ℕ) → t ≤ data-tracks sh s → offset sh d s t ≡ slope sh d s t
 unfolding offset
 offset-in sh d s t h = if-pos (decLe _ _) h _ _
 
@@ -98,14 +91,13 @@ offset-vertical sh d s t h = let n : ¬ (t ≤ data-tracks sh s) = omega arith i
 
 -- The offsets of a track that is no vertical one: on its own set's diagonal and on the other's.
 pub offset-both : (sh : Shape) (s : TrackSet) (t : ℕ) → t ≤ data-tracks sh s → (offset sh s s t ≡ t) × (offset sh (other s) s t ≡ lag sh - t)
-unfolding shift
 offset-both sh A t h = (offset-in sh A A t h, offset-in sh B A t h)
 offset-both sh B t h = (offset-in sh B B t h, offset-in sh A B t h)
 
 -- Where a diagonal meets a track at all, it is at most the lag back.
 pub offset-small : (sh : Shape) (d s : TrackSet) (t : ℕ) → offset sh d s t < track-length sh → offset sh d s t ≤ lag sh
 offset-small sh d s t h = by-cases (decLe t (data-tracks sh s))
-    (λ l. rw (offset-in sh d s t l) (shift-small sh d s t l))
+    (λ l. rw (offset-in sh d s t l) (slope-small sh d s t l))
     (λ l. absurd (omega (arith, offset-vertical sh d s t (omega arith))))
 
 -- What a diagonal sums over the track's set: the cell that it meets, or nothing.
@@ -123,7 +115,7 @@ unmet n k m = sum-zero n _ (λ v h. back-zero (λ p. 0) m (k v) (λ p e. refl))
 
 -- A diagonal of the record is the one cell that it meets.
 pub diagonal-put : (sh : Shape) (s : TrackSet) (t : ℕ) (f : ℕ → ℕ) (d : TrackSet) (m : ℕ) → m < track-length sh → diagonal sh (put s t f) d m ≡ back f m (offset sh d s t)
-unfolding diagonal put offset shift
+unfolding diagonal put offset
 diagonal-put sh A t f A m b = omega (arith, met t f (λ v. v) m (sh .t1) (track-length sh) b (decLe t (sh .t1)), unmet (suc (sh .t2)) (λ v. lag sh - v) m)
 diagonal-put sh A t f B m b = omega (arith, met t f (λ v. lag sh - v) m (sh .t1) (track-length sh) b (decLe t (sh .t1)), unmet (suc (sh .t2)) (λ v. v) m)
 diagonal-put sh B t f A m b = omega (arith, met t f (λ v. lag sh - v) m (sh .t2) (track-length sh) b (decLe t (sh .t2)), unmet (suc (sh .t1)) (λ v. v) m)

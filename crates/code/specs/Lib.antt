@@ -14,5 +14,6 @@ pub mod Contracts
 pub mod Supply
 pub mod Checklist
 pub mod Examples
+pub mod Heads
 pub mod Sizes
 pub mod Answers

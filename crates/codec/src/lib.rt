@@ -197,7 +197,7 @@ fn image_good(image: &[u8], z: Sizes, lost: bool) -> bool
     let l = z.positions + (z.t1 + z.t2 + 1);
     let mut room = [0u8; 8252];
     let sums = &mut room[..4 * l];
-    syndrome::syndromes(image, z, sums);
+    sums::syndromes(image, z, sums);
     syndrome::is_good(image, sums, z)
 }
 

@@ -131,7 +131,7 @@ fn repair_record(z: Sizes, marks: [u8; 18], image: &[u8], out: &mut [u8], lost: 
     track::copy_known(out, image);
     let mut room = [0u8; 8252];
     let syn = &mut room[..4 * l];
-    syndrome::syndromes(out, z, syn);
+    sums::syndromes(out, z, syn);
     if work(z, &marks, image, out, syn) {
         return answer_of(z, &marks, image, out, Extra::None, Extra::None);
     }

@@ -92,7 +92,7 @@ fn repair_cells(z: Sizes, words: &[u32], near: &[u32], image: &[u8], out: &mut [
     track::copy_known(out, image);
     let mut room = [0u8; 8252];
     let syn = &mut room[..4 * l];
-    syndrome::syndromes(out, z, syn);
+    sums::syndromes(out, z, syn);
     if stretches::solve(out, syn, z, words, near) {
         return answer_of(z, words, image, out);
     }

@@ -2,7 +2,6 @@ pub mod Table
 pub mod Numbered
 pub mod Parts
 pub mod Law
-pub mod Gathering
 pub mod Turning
 pub mod Testing
 pub mod Adding

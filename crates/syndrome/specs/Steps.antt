@@ -25,12 +25,6 @@ pub record DataTracks (z : Sizes) (s r : ℕ) : Type 0 where
   pub is : r ≡ data-tracks (shape z) (set-of s)
   pub within : r ≤ z .t1 + z .t2
 
--- Neither set has more than r data tracks.
-pub record Most (z : Sizes) (r : ℕ) : Type 0 where
-  pub first : z .t1 ≤ r
-  pub second : z .t2 ≤ r
-  pub within : r ≤ z .t1 + z .t2
-
 -- r is a track's number, and an image has that track.
 pub record TrackNumber (z : Sizes) (s t r : ℕ) : Type 0 where
   pub is : r ≡ track-number (shape z) (set-of s) t

@@ -1,4 +1,4 @@
-// The syndromes of an image, and the functions that change a cell and keep them.
+// What the syndromes of an image are, and the functions that change a cell and keep them.
 use code::Sizes;
 ghost use mathlib.Core.Path.{_≡_};
 ghost use Prim.Native.Nat.{_+_, _*_, _<_, _≤_};
@@ -8,14 +8,11 @@ ghost use Rattle.track.specs.Track.{Bits};
 ghost use Rattle.code.specs.Image.{cells};
 ghost use Rattle.code.specs.Sizes.{shape, Small};
 ghost use Rattle.code.proofs.Mono.{mono};
-ghost use Rattle.syndrome.specs.Syndrome.{set-of, Holds, Image, Kept, IsCell, Flipped, LineOf, CellAdded, Tested};
+ghost use Rattle.syndrome.specs.Syndrome.{set-of, Image, Kept, IsCell, Flipped, LineOf, CellAdded, Tested};
 ghost use Rattle.syndrome.specs.Steps.{
   IsTrack,
   DataTracks,
-  Most,
   TrackNumber,
-  Stretch,
-  cells-of,
   Rows,
   Ready,
   RowAdded,
@@ -31,79 +28,12 @@ pub fn data_tracks(z: Sizes, s: usize) -> usize
     if s == 0 { z.t1 } else { z.t2 }
 }
 
-// The number of data tracks of the larger set.
-fn most_tracks(z: Sizes) -> usize
-    ensures { λ r. ⌜ Most z r ⌝ }
-{
-    if z.t1 < z.t2 { z.t2 } else { z.t1 }
-}
-
 // The track number of track t of a set.
 pub fn track_number(z: Sizes, s: usize, t: usize) -> usize
     requires { ⌜ IsTrack z s t ⌝ }
     ensures { λ r. ⌜ TrackNumber z s t r ⌝ }
 {
     if s == 0 { t } else { z.t1 + 2 + t }
-}
-
-// Adds a stretch to one row of the syndromes, its first cell at `off`.
-fn add_to_row(syn: &mut [u8], l: usize, row: usize, stretch: &[u8], off: usize)
-    requires { ⌜ Ready l row off (now syn) ⌝ }
-    requires { ⌜ Stretch l (now stretch) ⌝ }
-    ensures { λ _. ⌜ RowAdded l row (cells-of (now (stretch .entry))) off (now (syn .entry)) (now (syn .exit)) ⌝ }
-{
-    let start = row * l;
-    let end = start + l;
-    track::add_track(&mut syn[start..end], stretch, off);
-}
-
-// Adds the stretch of track t of a set to the sums that the track stands in.
-fn add_stretch(syn: &mut [u8], stretch: &[u8], z: Sizes, s: usize, t: usize)
-    requires { ⌜ IsTrack z s t ⌝ }
-    requires { ⌜ Stretch (track-length (shape z)) (now stretch) ⌝ }
-    requires { ⌜ Rows (track-length (shape z)) (now syn) ⌝ }
-    ensures { λ _. ⌜ TrackAdded (shape z) (set-of s) t (cells-of (now (stretch .entry))) (now (syn .entry)) (now (syn .exit)) ⌝ }
-{
-    let lag = z.t1 + z.t2 + 1;
-    let l = z.positions + lag;
-    add_to_row(syn, l, 2 + s, stretch, 0);
-    if t <= data_tracks(z, s) {
-        add_to_row(syn, l, s, stretch, t);
-        add_to_row(syn, l, 1 - s, stretch, lag - t);
-    }
-}
-
-// Adds track t of a set, where the set has it.
-fn add_set_track(syn: &mut [u8], image: &[u8], z: Sizes, s: usize, t: usize)
-    requires { ⌜ Small z ⌝ }
-    requires { ⌜ s < 2 ⌝ }
-    requires { ⌜ Image (shape z) (now image) ⌝ }
-    requires { ⌜ Rows (track-length (shape z)) (now syn) ⌝ }
-    ensures { λ _. ⌜ TrackAdded (shape z) (set-of s) t (cells (shape z) (now (image .entry)) (set-of s) t) (now (syn .entry)) (now (syn .exit)) ⌝ }
-{
-    if t < data_tracks(z, s) + 2 {
-        let l = z.positions + (z.t1 + z.t2 + 1);
-        let start = track_number(z, s, t) * l;
-        let end = start + l;
-        add_stretch(syn, &image[start..end], z, s, t);
-    }
-}
-
-// The syndromes of an image, summed in the order of the heads: A0, B0, A1, B1 and so on.
-pub fn syndromes(image: &[u8], z: Sizes, syn: &mut [u8])
-    requires { ⌜ Small z ⌝ }
-    requires { ⌜ Image (shape z) (now image) ⌝ }
-    requires { ⌜ length (now syn) ≡ 4 * track-length (shape z) ⌝ }
-    ensures { λ _. ⌜ Holds (shape z) (cells (shape z) (now (image .entry))) (now (syn .exit)) ⌝ }
-{
-    track::clear(syn);
-    let count = most_tracks(z) + 2;
-    let mut t = 0;
-    while t < count {
-        add_set_track(syn, image, z, 0, t);
-        add_set_track(syn, image, z, 1, t);
-        t += 1;
-    }
 }
 
 // Turns the cell `off` after p of a row of the syndromes over, where the row has it.

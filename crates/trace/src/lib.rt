@@ -233,7 +233,7 @@ fn trace_record(
     let mut spare = [0u8; 8252];
     let first = &mut room[..4 * l];
     let syn = &mut spare[..4 * l];
-    syndrome::syndromes(out, z, first);
+    sums::syndromes(out, z, first);
     let hit = search(z, w, marks, image, out, first, syn);
     if !hit.found {
         repair::put_back(image, out, lost);

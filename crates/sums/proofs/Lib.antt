@@ -1,0 +1,6 @@
+pub mod Numbered
+pub mod Adding
+pub mod Rows
+pub mod Padding
+pub mod Delay
+pub mod Short

@@ -1,0 +1,130 @@
+-- `sum_short` meets its contract. The loop's invariant: the first r rows are copied. Assumes nothing.
+use mathlib.Core.Path.{_≡_, sym, _∙_}
+use Prim.Native.Nat.{ℕ, _+_, _*_, _-_, _≤_}
+use native.Mathlib.Omega.{arith}
+use borrow.Author.Needs.{needs}
+use lib.ListN.{length-replicate}
+use Rattle.code.specs.Record.{track-length}
+use Rattle.code.specs.Sizes.{shape}
+use Rattle.track.proofs.Rows.{row-end}
+use Rattle.sums.proofs.Padding.{edge-small}
+use Rattle.sums.proofs.Short.{RowsCopied, copied-none, copied-more, short-done}
+use Rattle.sums.proofs.sum_short.Statement.{statement}
+use Rattle.sums.proofs.sum_short.Tie as tie
+
+abbrev Inv-loop : tie.InvT-loop
+Inv-loop syn₀ padded lag l rows r₀ syn r = (r ≤ 4) × RowsCopied l r rows syn
+
+abbrev μ-loop : tie.MeasureT-loop
+μ-loop syn₀ padded lag l rows r₀ syn r = 4 - r
+
+-- A row is within the rows.
+room : (c : tie.In-loop Inv-loop μ-loop) →
+    let l = c .before in
+    let n = track-length (shape (l .before .before .before .before .before .before .before .before .args .z)) in
+    l .loop .r * n + n ≤ 4 * n
+room c = row-end _ _ 4 (search needs)
+
+add-lag : tie.Need-add-lag Inv-loop μ-loop
+add-lag c = search needs
+
+add-lag-2 : tie.Need-add-lag-2 Inv-loop μ-loop
+add-lag-2 c = search needs
+
+add-l : tie.Need-add-l Inv-loop μ-loop
+add-l c = search needs
+
+slice-aggregate-put-rows : tie.Need-slice-aggregate-put-rows Inv-loop μ-loop
+slice-aggregate-put-rows c = sym (length-replicate {A = ℕ} 256 0)
+
+put-rows-requires : tie.Need-put-rows-requires Inv-loop μ-loop
+put-rows-requires c κs =
+    let s = c .before .before .before .before .before in
+    (length-replicate {A = ℕ} 256 0, (omega arith, record { small = edge-small _ (s .pre .0); is-image = s .pre .1 .1 .1; from = omega arith; to = omega arith }))
+
+loop-holds : tie.Need-loop-holds Inv-loop μ-loop
+loop-holds c = (search needs, copied-none _ _ _ (c .before .before .before .before .before .before .before .pre .1 .1 .0))
+
+mul-from : tie.Need-mul-from Inv-loop μ-loop
+mul-from c = search needs
+
+add-to : tie.Need-add-to Inv-loop μ-loop
+add-to c = search needs
+
+mul-start : tie.Need-mul-start Inv-loop μ-loop
+mul-start c = search (needs, room c)
+
+add-end : tie.Need-add-end Inv-loop μ-loop
+add-end c = search (needs, room c)
+
+sub-copy-into : tie.Need-sub-copy-into Inv-loop μ-loop
+sub-copy-into c = search needs
+
+part-copy-into-start : tie.Need-part-copy-into-start Inv-loop μ-loop
+part-copy-into-start c = search needs
+
+part-copy-into-end : tie.Need-part-copy-into-end Inv-loop μ-loop
+part-copy-into-end c = search (needs, room c)
+
+sub-copy-into-2 : tie.Need-sub-copy-into-2 Inv-loop μ-loop
+sub-copy-into-2 c = search needs
+
+part-copy-into-start-2 : tie.Need-part-copy-into-start-2 Inv-loop μ-loop
+part-copy-into-start-2 c = search needs
+
+part-copy-into-end-2 : tie.Need-part-copy-into-end-2 Inv-loop μ-loop
+part-copy-into-end-2 c = search needs
+
+copy-into-requires : tie.Need-copy-into-requires Inv-loop μ-loop
+copy-into-requires c κs = search needs
+
+add-r : tie.Need-add-r Inv-loop μ-loop
+add-r c = search needs
+
+loop-less : tie.Need-loop-less Inv-loop μ-loop
+loop-less c = search needs
+
+loop-again : tie.Need-loop-again Inv-loop μ-loop
+loop-again c =
+    let l = c .before .before .before .before .before .before .before in
+    let s = l .before .before .before .before .before .before .before .before in
+    (search needs, copied-more _ _ _ _ _ (l .loop .inv .1) (search needs) (s .pre .1 .0) (l .before .before .put-rows .ensures .size ∙ length-replicate {A = ℕ} 256 0) (c .before .before .copy-into .ensures))
+
+same-length : tie.Need-same-length Inv-loop μ-loop
+same-length c = search needs
+
+returns : tie.Need-returns Inv-loop μ-loop
+returns c =
+    let l = c .before in
+    let s = l .before .before .before .before .before .before .before .before in
+    let e : l .loop .r ≡ 4 = omega (arith, c .loop-test, l .loop .inv .0) in
+    short-done (s .args .z) _ _ _ _ (rw e at (l .loop .inv .1)) (l .before .before .put-rows .ensures) (s .pre .1 .0)
+
+pub sum-short-spec : {M : Type 1} → statement M
+sum-short-spec =
+    tie.close
+    (tie.spec
+    Inv-loop
+    μ-loop
+    add-lag
+    add-lag-2
+    add-l
+    slice-aggregate-put-rows
+    put-rows-requires
+    loop-holds
+    mul-from
+    add-to
+    mul-start
+    add-end
+    sub-copy-into
+    part-copy-into-start
+    part-copy-into-end
+    sub-copy-into-2
+    part-copy-into-start-2
+    part-copy-into-end-2
+    copy-into-requires
+    add-r
+    loop-less
+    loop-again
+    same-length
+    returns)
