@@ -117,22 +117,81 @@ static inline size_t track_number(size_t s, size_t t)
     return TRACKS * s + t;
 }
 
-/* Adds track t of a set to the sums that it stands in. */
-static void add_stretch(uint8_t *restrict syn, const uint8_t *restrict track, size_t l, size_t s, size_t t)
+/* The positions that are summed at a time, and the first cells of a track that are padded. */
+enum { RUN = 64, FIRST = 80, PADDED = LAG + FIRST };
+
+/* Sixteen cells, added at once, and the sums of a run. */
+typedef uint8_t cells __attribute__((vector_size(16)));
+struct run {
+    cells sums[RUN / 16];
+};
+
+static inline void add_run(struct run *r, const uint8_t *from)
 {
-    add_track(syn + (2 + s) * l, track, l, 0);
-    if (t <= DATA) {
-        add_track(syn + s * l, track, l, t);
-        add_track(syn + (1 - s) * l, track, l, LAG - t);
+    for (size_t k = 0; k < RUN / 16; k++) {
+        cells c;
+        memcpy(&c, from + 16 * k, 16);
+        r->sums[k] ^= c;
     }
+}
+
+/* The diagonals of set s at the positions from m on, in head order. */
+static inline void diagonal_run(uint8_t *restrict row, const uint8_t *restrict image, size_t l, size_t s, size_t m)
+{
+    struct run r = {0};
+    for (size_t t = 0; t <= DATA; t++) {
+        add_run(&r, image + track_number(0, t) * l + m - (s == 0 ? t : LAG - t));
+        add_run(&r, image + track_number(1, t) * l + m - (s == 1 ? t : LAG - t));
+    }
+    memcpy(row, r.sums, RUN);
+}
+
+/* The verticals of set s there. */
+static inline void vertical_run(uint8_t *restrict row, const uint8_t *restrict image, size_t l, size_t s, size_t m)
+{
+    struct run r = {0};
+    for (size_t t = 0; t < TRACKS; t++)
+        add_run(&r, image + track_number(s, t) * l + m);
+    memcpy(row, r.sums, RUN);
+}
+
+/* Puts the sums of an image at the positions from m on into four rows of l, from p on. */
+static void put_rows(uint8_t *restrict syn, size_t l, size_t p, const uint8_t *restrict image, size_t image_l, size_t m)
+{
+    diagonal_run(syn + p, image, image_l, 0, m);
+    diagonal_run(syn + l + p, image, image_l, 1, m);
+    vertical_run(syn + 2 * l + p, image, image_l, 0, m);
+    vertical_run(syn + 3 * l + p, image, image_l, 1, m);
+}
+
+/* Copies the first cells of a track, or all where there are fewer. */
+static inline void copy_first(uint8_t *restrict out, const uint8_t *restrict track, size_t l)
+{
+    if (l < FIRST)
+        memcpy(out, track, l);
+    else
+        memcpy(out, track, FIRST);
 }
 
 static void syndromes(const uint8_t *restrict image, size_t l, uint8_t *restrict syn)
 {
-    memset(syn, 0, 4 * l);
-    for (size_t t = 0; t < TRACKS; t++) {
-        add_stretch(syn, image + track_number(0, t) * l, l, 0, t);
-        add_stretch(syn, image + track_number(1, t) * l, l, 1, t);
+    /* The first cells of each track behind zeros, for the positions where a diagonal goes back past the start. */
+    uint8_t padded[ALL * PADDED] = {0};
+    for (size_t g = 0; g < ALL; g++)
+        copy_first(padded + g * PADDED + LAG, image + g * l, l);
+    if (l < RUN) {
+        uint8_t rows[4 * RUN];
+        put_rows(rows, RUN, 0, padded, PADDED, LAG);
+        for (size_t r = 0; r < 4; r++)
+            memcpy(syn + r * l, rows + r * RUN, l);
+        return;
+    }
+    for (size_t m = 0; m < l; m += RUN) {
+        size_t p = l - RUN < m ? l - RUN : m;
+        if (p < LAG)
+            put_rows(syn, l, p, padded, PADDED, LAG + p);
+        else
+            put_rows(syn, l, p, image, l, p);
     }
 }
 

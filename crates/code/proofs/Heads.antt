@@ -1,10 +1,10 @@
 -- Diagonals in head order: document 02, note 8.
 use mathlib.Core.Path.{_≡_, refl, sym, ap, _∙_}
-use Prim.Native.Nat.{ℕ, zero, suc, _+_, _-_, _<_, _≤_}
+use Prim.Native.Nat.{ℕ, zero, suc, _+_, _<_, _≤_}
 use native.Mathlib.Decide.{ℕ-discrete}
 use native.Mathlib.Omega.{arith}
 use borrow.Author.Tests.{lt-ltb, le-ltb}
-use Rattle.code.specs.Record.{TrackSet, A, B, Shape, data-tracks, lag, Cells, back, sum, diagonal}
+use Rattle.code.specs.Record.{TrackSet, A, B, Shape, data-tracks, Cells, back, sum, diagonal}
 use Rattle.code.specs.Heads.{slope, share, running, HeadOrder}
 use Rattle.code.proofs.Sums.{sum-same}
 
@@ -49,4 +49,10 @@ in-head-order sh x B m n a b = omega (arith, in-sets sh x B m n, set-whole sh x 
 -- What the note says, of every record, set and position.
 pub head-order : (sh : Shape) (x : Cells) (d : TrackSet) (m : ℕ) → HeadOrder sh x d m
 unfolding running
-head-order sh x d m = record { after-b = λ t. in-sets sh x d m (suc t); whole = in-head-order sh x d m }
+head-order sh x d m = record {
+  first = refl;
+  then-b = λ t. refl;
+  then-a = λ t. refl;
+  after-b = λ t. in-sets sh x d m (suc t);
+  whole = in-head-order sh x d m;
+}

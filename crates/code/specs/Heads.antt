@@ -29,8 +29,13 @@ before sh x d B t m = running sh x d t m + share sh x d A t m
 abbrev pub after : Shape → Cells → TrackSet → TrackSet → ℕ → ℕ → ℕ
 after sh x d s t m = before sh x d s t m + share sh x d s t m
 
--- What the note says of a record's diagonal: after track t of B the running sum is that of tracks 0 to t of both sets,
--- and the whole, when all tracks that lie on it have arrived, is the sum set after set of rules 1 and 2.
+-- What the note says of the diagonal of set d at m, for every record, and so for every image.
 pub record HeadOrder (sh : Shape) (x : Cells) (d : TrackSet) (m : ℕ) : Type 0 where
+  -- Track 0 of A is the first to be added; track t of B is the next after track t of A, and track t + 1 of A after it.
+  pub first : before sh x d A 0 m ≡ 0
+  pub then-b : (t : ℕ) → before sh x d B t m ≡ after sh x d A t m
+  pub then-a : (t : ℕ) → before sh x d A (suc t) m ≡ after sh x d B t m
+  -- After track t of B the running sum is that of tracks 0 to t of both sets.
   pub after-b : (t : ℕ) → after sh x d B t m ≡ sum (suc t) (λ u. share sh x d A u m) + sum (suc t) (λ u. share sh x d B u m)
+  -- The whole, when all tracks that lie on the diagonal have arrived, is the sum set after set of rules 1 and 2.
   pub whole : (n : ℕ) → data-tracks sh A < n → data-tracks sh B < n → running sh x d n m ≡ diagonal sh x d m

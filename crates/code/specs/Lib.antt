@@ -6,6 +6,7 @@ pub mod Flags
 pub mod Lost
 pub mod Reach
 pub mod Packed
+pub mod Heads
 pub mod Spans
 pub mod Files
 pub mod Numbers
@@ -14,6 +15,5 @@ pub mod Contracts
 pub mod Supply
 pub mod Checklist
 pub mod Examples
-pub mod Heads
 pub mod Sizes
 pub mod Answers

@@ -1,9 +1,9 @@
 -- Slopes by the code's numbers of sets.
 use mathlib.Core.Path.{_≡_, refl}
 use mathlib.Core.Logic.{_≢_}
-use Prim.Native.Nat.{ℕ, zero, suc, _+_, _-_, _<_, _≤_}
+use Prim.Native.Nat.{ℕ, zero, suc, _-_, _<_, _≤_}
 use native.Mathlib.Omega.{arith}
-use Rattle.code.specs.Record.{A, B, Shape, data-tracks, lag}
+use Rattle.code.specs.Record.{A, Shape, data-tracks, lag}
 use Rattle.code.specs.Heads.{slope}
 use Rattle.syndrome.specs.Syndrome.{set-of}
 

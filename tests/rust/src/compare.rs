@@ -32,10 +32,11 @@ pub const CALLS: [(&str, &[usize]); 11] = [
 pub type Class = fn(&mut Random, u64, &mut Tally);
 
 /// The classes, by the name that their generator has too.
-pub const CLASSES: [(&str, Class); 38] = [
+pub const CLASSES: [(&str, Class); 39] = [
     ("examples", examples),
     ("every_block_count", every_block_count),
     ("every_payload_bit", every_payload_bit),
+    ("every_wrong_cell", every_wrong_cell),
     ("damaged_records", damaged_records),
     ("long_records", long_records),
     ("noise", noise),
@@ -601,6 +602,28 @@ pub fn every_payload_bit(random: &mut Random, _: u64, tally: &mut Tally) {
     for i in 0..112 {
         for j in 0..i {
             encode(1, &[i, j], 0);
+        }
+    }
+}
+
+/// Records of up to 20 blocks with each cell turned over alone, and of 100 and 256 blocks with those near the start, at the
+/// ends of each run of 64 positions and in the last 80: every sum, one cell at a time. The reader says 7, and repair of the
+/// cell's track turns that cell back.
+pub fn every_wrong_cell(random: &mut Random, _: u64, tally: &mut Tally) {
+    for blocks in (0..=20).chain([100, 256]) {
+        let shape = Shape::base(blocks);
+        let record = tally.record(random, blocks);
+        let l = shape.length();
+        let near_an_end = |m: usize| m < 16 || [0, 63].contains(&(m % 64)) || l <= m + 80;
+        for cell in (0..record.len()).filter(|cell| blocks <= 20 || near_an_end(cell % l)) {
+            let mut image = record.clone();
+            image[cell] ^= 1;
+            let (answer, _) = tally.compare(random, Call::Read, blocks, &image, shape.payload_size());
+            assert_eq!(answer, number(7, 0), "blocks {blocks}, cell {cell}");
+            let flags = 1 << (cell / l);
+            let (answer, out) = tally.compare(random, Call::Repair(flags), blocks, &image, image.len());
+            assert_eq!(answer, Answer { mask: flags, cells: 1, ..number(0, 0) }, "blocks {blocks}, cell {cell}");
+            assert!(out == record, "blocks {blocks}, cell {cell}");
         }
     }
 }

@@ -24,6 +24,11 @@ fn every_payload_bit() {
 }
 
 #[test]
+fn every_wrong_cell() {
+    compare("every_wrong_cell");
+}
+
+#[test]
 fn damaged_records() {
     compare("damaged_records");
 }

@@ -1,5 +1,4 @@
 -- `add_run`: the loop's invariant is that the first k sums have their cells added, and the rest stay. Assumes nothing.
-use mathlib.Core.Path.{_≡_}
 use Prim.Native.Nat.{_+_, _-_, _≤_}
 use native.Mathlib.Omega.{arith}
 use borrow.Author.Needs.{needs}
