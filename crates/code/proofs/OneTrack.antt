@@ -144,20 +144,6 @@ unfolding vertical put
 vertical-off sh A t f m = sum-zero _ _ (λ v h. refl)
 vertical-off sh B t f m = sum-zero _ _ (λ v h. refl)
 
--- The other set's tracks are 0.
-pub put-other : (s : TrackSet) (t : ℕ) (f : ℕ → ℕ) (v m : ℕ) → put s t f (other s) v m ≡ 0
-unfolding put
-put-other A t f v m = refl
-put-other B t f v m = refl
-
--- Where f and g are the same, so are the records.
-pub put-same : (s : TrackSet) (t : ℕ) (f g : ℕ → ℕ) (u : TrackSet) (v m : ℕ) → f m ≡ g m → put s t f u v m ≡ put s t g u v m
-unfolding put only
-put-same A t f g A v m e = rw e
-put-same A t f g B v m e = refl
-put-same B t f g A v m e = refl
-put-same B t f g B v m e = rw e
-
 -- Two single cells are the same where they are met alike.
 pub mono-same : (e m e′ m′ : ℕ) → (e ≡ m → e′ ≡ m′) → (e′ ≡ m′ → e ≡ m) → mono e m ≡ mono e′ m′
 mono-same e m e′ m′ f g = by-cases (ℕ-discrete e m)

@@ -5,13 +5,14 @@ use Prim.Native.Nat.{ℕ, suc, _+_, _*_, _-_, _%_, _<_, _≤_}
 use native.Mathlib.Numerals.{add-one}
 use native.Mathlib.Omega.{arith}
 use lib.Bits.{bitXor, xor-add-and, xor-lt}
-use lib.ListN.{getD, replicate, length-replicate, getD-replicate}
+use lib.ListN.{length, getD, replicate, length-replicate, getD-replicate}
 use Rattle.code.specs.Record.{TrackSet, A, B, Shape, data-tracks, tracks, lag, track-length, Cells, sum, diagonal, vertical}
 use Rattle.code.specs.Heads.{slope, share, running, before, after}
 use Rattle.code.specs.Image.{track-number, cells}
 use Rattle.code.proofs.Sums.{back-at}
 use Rattle.code.proofs.OneTrack.{slope-small}
 use Rattle.code.proofs.Heads.{share-on, share-off, head-order}
+use Rattle.track.proofs.Rows.{part, part-row, part-bits}
 use Rattle.sums.specs.declared.Run.{Run}
 use Rattle.sums.specs.Run.{SumsOf, RunAdded}
 
@@ -39,23 +40,34 @@ module _ (sh : Shape) (image : List ℕ) where
   abbrev x : Cells
   x = cells sh image
 
-  -- Where the code reads track t of set s for the diagonal of set d, it meets the track's share.
-  head-cell : (d s : TrackSet) (t m k : ℕ) → t ≤ data-tracks sh s → lag sh ≤ m →
-      getD image (track-number sh s t * track-length sh + m - slope sh d s t + k) 0 ≡ share sh x d s t (m + k)
-  head-cell d s t m k h b =
-      let small = slope-small sh d s t h in
-      let e : track-number sh s t * track-length sh + m - slope sh d s t + k ≡ track-number sh s t * track-length sh + (m + k - slope sh d s t) = omega arith in
-      ap (λ i. getD image i 0) e ∙ sym (share-on sh x d s t (m + k) h ∙ back-at (x s t) (m + k - slope sh d s t) (slope sh d s t) (m + k) (omega arith))
+  -- The cells of the stretch that is track t of set s.
+  module _ (s : TrackSet) (t g : ℕ) (is : g ≡ track-number sh s t) (room : g * track-length sh + track-length sh ≤ length image) where
+    abbrev stretch : List ℕ
+    stretch = part (track-length sh) image g
+
+    stretch-cell : (i : ℕ) → i < track-length sh → getD stretch i 0 ≡ x s t i
+    stretch-cell i h = part-row (track-length sh) image g room i h ∙ rw is
+
+    stretch-bits : ((i : ℕ) → getD image i 0 < 2) → (i : ℕ) → getD stretch i 0 < 2
+    stretch-bits bits = part-bits (track-length sh) image g room (record { bit = bits }) .bit
+
+    -- Where the diagonal of set d has them, they are the track's share.
+    head-cell : (d : TrackSet) (m k : ℕ) → t ≤ data-tracks sh s → lag sh ≤ m → m + k < track-length sh →
+        getD stretch (m - slope sh d s t + k) 0 ≡ share sh x d s t (m + k)
+    head-cell d m k h b c =
+        let small = slope-small sh d s t h in
+        stretch-cell (m - slope sh d s t + k) (omega arith)
+        ∙ sym (share-on sh x d s t (m + k) h ∙ back-at (x s t) (m - slope sh d s t + k) (slope sh d s t) (m + k) (omega arith))
 
   -- What `add_head` gives: a track past T adds nothing, another its share.
   pub head-past : (d s : TrackSet) (t m : ℕ) (run : Run) → data-tracks sh s < t → SumsOf (before sh x d s t) m run → SumsOf (after sh x d s t) m run
   head-past d s t m run h = sums-as (before sh x d s t) (after sh x d s t) m run (λ p. omega (arith, share-off sh x d s t p h))
 
-  pub head-added : (d s : TrackSet) (t m from : ℕ) (run next : Run) → t ≤ data-tracks sh s → lag sh ≤ m → ((i : ℕ) → getD image i 0 < 2) →
-      from ≡ track-number sh s t * track-length sh + m - slope sh d s t → SumsOf (before sh x d s t) m run → RunAdded run image from next →
-      SumsOf (after sh x d s t) m next
-  head-added d s t m from run next h b bits e s₀ a = sums-more (before sh x d s t) (share sh x d s t) m run next image from s₀ bits
-      (λ k c. rw e (head-cell d s t m k h b)) a
+  pub head-added : (d s : TrackSet) (t m g from : ℕ) (run next : Run) → t ≤ data-tracks sh s → lag sh ≤ m → m + 64 ≤ track-length sh → ((i : ℕ) → getD image i 0 < 2) →
+      (is : g ≡ track-number sh s t) (room : g * track-length sh + track-length sh ≤ length image) → from ≡ m - slope sh d s t →
+      SumsOf (before sh x d s t) m run → RunAdded run (part (track-length sh) image g) from next → SumsOf (after sh x d s t) m next
+  head-added d s t m g from run next h b end bits is room e s₀ a = sums-more (before sh x d s t) (share sh x d s t) m run next (part (track-length sh) image g) from s₀
+      (stretch-bits s t g is room bits) (λ k c. rw e (head-cell s t g is room d m k h b (omega arith))) a
 
   -- Track t of B after track t of A: the running sum has a track of each set more.
   pub both-added : (d : TrackSet) (t m : ℕ) (run : Run) → SumsOf (after sh x d B t) m run → SumsOf (running sh x d (suc t)) m run
@@ -78,11 +90,12 @@ module _ (sh : Shape) (image : List ℕ) where
   unfolding sum
   no-tracks s m = zero-run _ m (λ p. refl)
 
-  pub track-more : (s : TrackSet) (t m from : ℕ) (run next : Run) → ((i : ℕ) → getD image i 0 < 2) →
-      from ≡ track-number sh s t * track-length sh + m → SumsOf (some-tracks s t) m run → RunAdded run image from next → SumsOf (some-tracks s (t + 1)) m next
+  pub track-more : (s : TrackSet) (t m g : ℕ) (run next : Run) → m + 64 ≤ track-length sh → ((i : ℕ) → getD image i 0 < 2) →
+      (is : g ≡ track-number sh s t) (room : g * track-length sh + track-length sh ≤ length image) →
+      SumsOf (some-tracks s t) m run → RunAdded run (part (track-length sh) image g) m next → SumsOf (some-tracks s (t + 1)) m next
   unfolding sum
-  track-more s t m from run next bits e s₀ a = rw add-one (sums-more (some-tracks s t) (x s t) m run next image from s₀ bits
-      (λ k c. rw e (ap (λ i. getD image i 0) (omega arith))) a)
+  track-more s t m g run next end bits is room s₀ a = rw add-one (sums-more (some-tracks s t) (x s t) m run next (part (track-length sh) image g) m s₀
+      (stretch-bits s t g is room bits) (λ k c. stretch-cell s t g is room (m + k) (omega arith)) a)
 
   pub all-tracks-in : (s : TrackSet) (m : ℕ) (run : Run) → SumsOf (some-tracks s (tracks sh s)) m run → SumsOf (vertical sh x s) m run
   unfolding vertical

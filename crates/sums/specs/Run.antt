@@ -17,10 +17,10 @@ pub record SumsOf (f : ℕ → ℕ) (m : ℕ) (run : Run) : Type 0 where
   pub size : length (run .sums) ≡ 64
   pub at : (k : ℕ) → k < 64 → getD (run .sums) k 0 ≡ f (m + k) % 2
 
--- The 64 cells from `from` on are added to a run's sums.
-pub record RunAdded (run : Run) (cells : List ℕ) (from : ℕ) (after : Run) : Type 0 where
+-- The 64 cells of a stretch from `from` on are added to a run's sums.
+pub record RunAdded (run : Run) (stretch : List ℕ) (from : ℕ) (after : Run) : Type 0 where
   pub size : length (after .sums) ≡ 64
-  pub at : (k : ℕ) → k < 64 → getD (after .sums) k 0 ≡ bitXor (getD (run .sums) k 0) (getD cells (from + k) 0)
+  pub at : (k : ℕ) → k < 64 → getD (after .sums) k 0 ≡ bitXor (getD (run .sums) k 0) (getD stretch (from + k) 0)
 
 -- The tracks of an image have 64 positions from m on, and before m as many as a diagonal goes back.
 pub record Within (z : Sizes) (m : ℕ) (image : List ℕ) : Type 0 where

@@ -19,16 +19,16 @@ struct Run {
     sums: [u8; 64],
 }
 
-// Adds to 64 sums the 64 cells from `from` on. The sums stay in the machine's registers.
-fn add_run(run: Run, cells: &[u8], from: usize) -> Run
+// Adds to 64 sums the 64 cells of a track's stretch from `from` on. Compiled, the sums stay in four vector registers.
+fn add_run(run: Run, stretch: &[u8], from: usize) -> Run
     requires { ⌜ length (run .sums) ≡ 64 ⌝ }
-    requires { ⌜ from + 64 ≤ length (now cells) ⌝ }
-    ensures { λ r. ⌜ RunAdded run (now (cells .entry)) from r ⌝ }
+    requires { ⌜ from + 64 ≤ length (now stretch) ⌝ }
+    ensures { λ r. ⌜ RunAdded run (now (stretch .entry)) from r ⌝ }
 {
     let mut sums = run.sums;
     let mut k = 0;
     while k < 64 {
-        sums[k] = sums[k] ^ cells[from + k];
+        sums[k] = sums[k] ^ stretch[from + k];
         k += 1;
     }
     Run { sums: sums }
@@ -58,8 +58,9 @@ fn add_head(run: Run, image: &[u8], z: Sizes, d: usize, s: usize, t: usize, m: u
         return run;
     }
     let l = z.positions + (z.t1 + z.t2 + 1);
-    let from = syndrome::track_number(z, s, t) * l + m - find_slope(z, d, s, t);
-    add_run(run, image, from)
+    let first = syndrome::track_number(z, s, t) * l;
+    let end = first + l;
+    add_run(run, &image[first..end], m - find_slope(z, d, s, t))
 }
 
 // Adds track t of A and then track t of B: the running sums become those of tracks 0 to t of both sets.
@@ -108,8 +109,9 @@ fn vertical_run(image: &[u8], z: Sizes, s: usize, m: usize) -> Run
     let mut run = Run { sums: [0; 64] };
     let mut t = 0;
     while t < count {
-        let from = syndrome::track_number(z, s, t) * l + m;
-        run = add_run(run, image, from);
+        let start = syndrome::track_number(z, s, t) * l;
+        let end = start + l;
+        run = add_run(run, &image[start..end], m);
         t += 1;
     }
     run

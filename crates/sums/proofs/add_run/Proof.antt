@@ -9,10 +9,10 @@ use Rattle.sums.proofs.add_run.Statement.{statement}
 use Rattle.sums.proofs.add_run.Tie as tie
 
 abbrev Inv-loop : tie.InvT-loop
-Inv-loop cells from sums₀ k₀ sums k = (k ≤ 64) × Written sums₀ (λ j. bitXor (getD sums₀ j 0) (getD cells (from + j) 0)) 0 k sums
+Inv-loop stretch from sums₀ k₀ sums k = (k ≤ 64) × Written sums₀ (λ j. bitXor (getD sums₀ j 0) (getD stretch (from + j) 0)) 0 k sums
 
 abbrev μ-loop : tie.MeasureT-loop
-μ-loop cells from sums₀ k₀ sums k = 64 - k
+μ-loop stretch from sums₀ k₀ sums k = 64 - k
 
 loop-holds : tie.Need-loop-holds Inv-loop μ-loop
 loop-holds c = (search needs, written-none _ _ _)

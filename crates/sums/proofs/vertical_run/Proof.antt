@@ -39,11 +39,20 @@ loop-holds c = let a = c .before .before .before .before .args in (search needs,
 track-number-requires : tie.Need-track-number-requires Inv-loop μ-loop
 track-number-requires c κs = search needs
 
-mul-from : tie.Need-mul-from Inv-loop μ-loop
-mul-from c = search needs
+mul-start : tie.Need-mul-start Inv-loop μ-loop
+mul-start c = search needs
 
-add-from : tie.Need-add-from Inv-loop μ-loop
-add-from c = search needs
+add-end : tie.Need-add-end Inv-loop μ-loop
+add-end c = search needs
+
+sub-add-run : tie.Need-sub-add-run Inv-loop μ-loop
+sub-add-run c = search needs
+
+part-add-run-start : tie.Need-part-add-run-start Inv-loop μ-loop
+part-add-run-start c = search needs
+
+part-add-run-end : tie.Need-part-add-run-end Inv-loop μ-loop
+part-add-run-end c = search needs
 
 add-run-requires : tie.Need-add-run-requires Inv-loop μ-loop
 add-run-requires c κs = search needs
@@ -56,10 +65,14 @@ loop-less c = search needs
 
 loop-again : tie.Need-loop-again Inv-loop μ-loop
 loop-again c =
-    let n = c .before in
+    let n = c .before .before in
     let l = n .before .before in
     let s = l .before .before .before .before .before in
-    (search needs, track-more (shape (s .args .z)) (now (s .args .image)) (set-of (s .args .s)) (l .loop .t) (s .args .m) _ _ _ (s .pre .0 .is-image .bits) (rw (n .track-number .ensures .is)) (l .loop .inv .1) (c .add-run .ensures))
+    let w = s .pre .0 in (
+      search needs,
+      track-more (shape (s .args .z)) (now (s .args .image)) (set-of (s .args .s)) (l .loop .t) (s .args .m) _ _ _ (w .to) (w .is-image .bits)
+          (n .track-number .ensures .is) (omega (arith, n .track-number .ensures .room, w .is-image .size)) (l .loop .inv .1) (c .add-run .ensures),
+    )
 
 returns : tie.Need-returns Inv-loop μ-loop
 returns c =
@@ -82,8 +95,11 @@ vertical-run-spec =
     add-count
     loop-holds
     track-number-requires
-    mul-from
-    add-from
+    mul-start
+    add-end
+    sub-add-run
+    part-add-run-start
+    part-add-run-end
     add-run-requires
     add-t
     loop-less
