@@ -120,19 +120,15 @@ static inline size_t track_number(size_t s, size_t t)
 /* The positions that are summed at a time, and the first cells of a track that are padded. */
 enum { RUN = 64, FIRST = 80, PADDED = LAG + FIRST };
 
-/* Sixteen cells, added at once, and the sums of a run. */
-typedef uint8_t cells __attribute__((vector_size(16)));
+/* The sums of a run. */
 struct run {
-    cells sums[RUN / 16];
+    uint8_t sums[RUN];
 };
 
 static inline void add_run(struct run *r, const uint8_t *from)
 {
-    for (size_t k = 0; k < RUN / 16; k++) {
-        cells c;
-        memcpy(&c, from + 16 * k, 16);
-        r->sums[k] ^= c;
-    }
+    for (size_t k = 0; k < RUN; k++)
+        r->sums[k] ^= from[k];
 }
 
 /* The diagonals of set s at the positions from m on, in head order. */
