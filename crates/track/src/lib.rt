@@ -202,7 +202,7 @@ fn spread(byte: u8) -> u64
 }
 
 // Writes the bytes of `x` to the eight cells from `at` on, the least significant first. By itself it compiles to one store.
-fn put(track: &mut [u8], at: usize, x: u64)
+pub fn put(track: &mut [u8], at: usize, x: u64)
     requires { ⌜ at + 8 ≤ length (now track) ⌝ }
     ensures size { λ _. ⌜ length (now (track .exit)) ≡ length (now (track .entry)) ⌝ }
     ensures cells { λ _. ⌜ ((k : ℕ) → k < 8 → getD (now (track .exit)) (at + k) 0 ≡ x / 256 ^ k % 256) ⌝ }
