@@ -64,8 +64,8 @@ pivot p A = p .a
 pivot p B = p .b
 
 abbrev pub room : Form → TrackSet → ℕ
-room p A = p .a_room
-room p B = p .b_room
+room p A = p .a-room
+room p B = p .b-room
 
 -- What belongs to set s, of set c.
 abbrev pub of-set : TrackSet → TrackSet → List ℕ → List ℕ
