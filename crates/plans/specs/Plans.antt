@@ -12,6 +12,7 @@ use Rattle.code.specs.Sizes.{shape}
 use Rattle.code.specs.declared.Sizes.{Sizes}
 use Rattle.syndrome.specs.Syndrome.{set-of}
 use Rattle.plans.specs.declared.Three.{Three}
+use Rattle.plans.specs.declared.Pivot.{Pivot}
 use Rattle.plans.specs.declared.Form.{Form}
 use Rattle.plans.specs.Lists.{Falls, Off}
 
@@ -47,25 +48,20 @@ pub record Inserted (x : Three) (e : ℕ) (r : Three) : Type 0 where
 
 -- ## Of both sets
 
--- The pivot of a set of so many data tracks whose highest flagged track is e - 1; the vertical track, where e is 0.
-abbrev pub pivot-track : ℕ → ℕ → ℕ
-pivot-track n zero = suc n
-pivot-track n (suc t) = t
-
--- The cells up to which it may be wrong.
-abbrev pub pivot-room : Shape → ℕ → TrackSet → ℕ → ℕ
-pivot-room sh end s zero = 0
-pivot-room sh end s (suc zero) = track-length sh
-pivot-room sh end s (suc (suc t)) = pick (ltb t (data-tracks sh s)) (sh .positions) end
+-- The pivot of a set whose highest flagged track is e - 1, and the cells up to which it may be wrong; the vertical track, where e is 0.
+abbrev pub pivot-at : Shape → ℕ → TrackSet → ℕ → Pivot
+pivot-at sh end s zero = record { track = suc (data-tracks sh s); room = 0 }
+pivot-at sh end s (suc zero) = record { track = 0; room = track-length sh }
+pivot-at sh end s (suc (suc t)) = record { track = suc t; room = pick (ltb t (data-tracks sh s)) (sh .positions) end }
 
 -- The pivot of a set, and the cells up to which it may be wrong.
 abbrev pub pivot : Form → TrackSet → ℕ
-pivot p A = p .a
-pivot p B = p .b
+pivot p A = p .a .track
+pivot p B = p .b .track
 
 abbrev pub room : Form → TrackSet → ℕ
-room p A = p .a-room
-room p B = p .b-room
+room p A = p .a .room
+room p B = p .b .room
 
 -- What belongs to set s, of set c.
 abbrev pub of-set : TrackSet → TrackSet → List ℕ → List ℕ

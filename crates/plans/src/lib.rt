@@ -3,13 +3,12 @@ use code::Sizes;
 ghost use mathlib.Core.Path.{_≡_};
 ghost use Prim.Native.Nat.{_<_, _≤_};
 ghost use lib.ListN.{length};
-ghost use Rattle.code.specs.Record.{data-tracks};
 ghost use Rattle.code.specs.Image.{all-tracks};
 ghost use Rattle.code.specs.Flags.{flag-count};
 ghost use Rattle.code.specs.Sizes.{shape, Small};
 ghost use Rattle.syndrome.specs.Syndrome.{set-of};
 ghost use Rattle.solver.specs.Solver.{marked};
-ghost use Rattle.plans.specs.Plans.{ThreeOf, Inserted, pivot-track, pivot-room, Sorted, Formed};
+ghost use Rattle.plans.specs.Plans.{ThreeOf, Inserted, pivot-at, Sorted, Formed};
 
 // The flagged tracks of a set, the highest first: 0 for none, t + 1 for track t.
 pub struct Three {
@@ -71,13 +70,16 @@ pub fn find_three(marks: &[u8], z: Sizes, s: usize) -> Three
     x
 }
 
-// The pivots a of A and b of B and the cells up to which each may be wrong. Of the tracks below them v is in set s and, if there are two,
-// u in set q.
+// The pivot of a set, and the cells up to which it may be wrong.
+pub struct Pivot {
+    pub track: usize,
+    pub room: usize,
+}
+
+// The pivots of A and of B. Of the tracks below them v is in set s and, if there are two, u in set q.
 pub struct Form {
-    pub a: usize,
-    pub b: usize,
-    pub a_room: usize,
-    pub b_room: usize,
+    pub a: Pivot,
+    pub b: Pivot,
     pub below: usize,
     pub s: usize,
     pub v: usize,
@@ -86,33 +88,34 @@ pub struct Form {
 }
 
 // The pivot of a set whose highest flagged track is e - 1; the vertical track, where e is 0.
-fn pivot_of(z: Sizes, s: usize, e: usize) -> usize
+fn pivot_of(z: Sizes, end: usize, s: usize, e: usize) -> Pivot
     requires { ⌜ Small z ⌝ }
     requires { ⌜ s < 2 ⌝ }
-    ensures { λ r. ⌜ r ≡ pivot-track (data-tracks (shape z) (set-of s)) e ⌝ }
+    ensures { λ r. ⌜ r ≡ pivot-at (shape z) end (set-of s) e ⌝ }
 {
+    let count = syndrome::data_tracks(z, s);
     if e == 0 {
-        return syndrome::data_tracks(z, s) + 1;
-    }
-    e - 1
-}
-
-// The cells up to which that pivot may be wrong.
-fn room_of(z: Sizes, end: usize, s: usize, e: usize) -> usize
-    requires { ⌜ Small z ⌝ }
-    requires { ⌜ s < 2 ⌝ }
-    ensures { λ r. ⌜ r ≡ pivot-room (shape z) end (set-of s) e ⌝ }
-{
-    if e == 0 {
-        return 0;
+        return Pivot {
+            track: count + 1,
+            room: 0,
+        };
     }
     if e == 1 {
-        return z.positions + (z.t1 + z.t2 + 1);
+        return Pivot {
+            track: 0,
+            room: z.positions + (z.t1 + z.t2 + 1),
+        };
     }
-    if e - 2 < syndrome::data_tracks(z, s) {
-        return z.positions;
+    if e - 2 < count {
+        return Pivot {
+            track: e - 1,
+            room: z.positions,
+        };
     }
-    end
+    Pivot {
+        track: e - 1,
+        room: end,
+    }
 }
 
 // The form of the flagged tracks x of A and y of B. Rule 3 holds before `end`.
@@ -122,16 +125,12 @@ pub fn form_of(z: Sizes, end: usize, x: Three, y: Three) -> Form
     requires { ⌜ Sorted y ⌝ }
     ensures { λ r. ⌜ Formed z end x y r ⌝ }
 {
-    let a = pivot_of(z, 0, x.high);
-    let b = pivot_of(z, 1, y.high);
-    let a_room = room_of(z, end, 0, x.high);
-    let b_room = room_of(z, end, 1, y.high);
+    let a = pivot_of(z, end, 0, x.high);
+    let b = pivot_of(z, end, 1, y.high);
     if x.low != 0 {
         return Form {
             a,
             b,
-            a_room,
-            b_room,
             below: 2,
             s: 0,
             v: x.low - 1,
@@ -143,8 +142,6 @@ pub fn form_of(z: Sizes, end: usize, x: Three, y: Three) -> Form
         return Form {
             a,
             b,
-            a_room,
-            b_room,
             below: 2,
             s: 1,
             v: y.low - 1,
@@ -157,8 +154,6 @@ pub fn form_of(z: Sizes, end: usize, x: Three, y: Three) -> Form
             return Form {
                 a,
                 b,
-                a_room,
-                b_room,
                 below: 0,
                 s: 0,
                 v: 0,
@@ -169,8 +164,6 @@ pub fn form_of(z: Sizes, end: usize, x: Three, y: Three) -> Form
         return Form {
             a,
             b,
-            a_room,
-            b_room,
             below: 1,
             s: 1,
             v: y.middle - 1,
@@ -182,8 +175,6 @@ pub fn form_of(z: Sizes, end: usize, x: Three, y: Three) -> Form
         return Form {
             a,
             b,
-            a_room,
-            b_room,
             below: 1,
             s: 0,
             v: x.middle - 1,
@@ -195,8 +186,6 @@ pub fn form_of(z: Sizes, end: usize, x: Three, y: Three) -> Form
         return Form {
             a,
             b,
-            a_room,
-            b_room,
             below: 2,
             s: 1,
             v: y.middle - 1,
@@ -207,8 +196,6 @@ pub fn form_of(z: Sizes, end: usize, x: Three, y: Three) -> Form
     Form {
         a,
         b,
-        a_room,
-        b_room,
         below: 2,
         s: 0,
         v: x.middle - 1,
