@@ -1,0 +1,4 @@
+pub mod Shifts
+pub mod Errors
+pub mod Pivots
+pub mod Forms

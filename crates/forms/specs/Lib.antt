@@ -1,0 +1,4 @@
+pub mod Streams
+pub mod Flagged
+pub mod Forms
+pub mod Found
