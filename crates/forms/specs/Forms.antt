@@ -9,10 +9,10 @@ use Rattle.plans.specs.declared.Form.{Form}
 use Rattle.plans.specs.Plans.{pivot}
 use Rattle.forms.specs.Streams.{Stream, times, cut}
 
--- What is left of the diagonal of set d, where D has the diagonals and V the verticals and rule 3 holds before `end`.
+-- What is left of the diagonal of set d, where D has the diagonals and W the verticals and rule 3 holds before `end`.
 unfoldable pub left : Shape → ℕ → (TrackSet → Stream) → (TrackSet → Stream) → Form → TrackSet → Stream
-left sh end D V p d m =
-    D d m + back (cut end (V A)) m (offset sh d A (pivot p A)) + back (cut end (V B)) m (offset sh d B (pivot p B))
+left sh end D W p d m =
+    D d m + back (cut end (W A)) m (offset sh d A (pivot p A)) + back (cut end (W B)) m (offset sh d B (pivot p B))
 
 -- Track t of set s, with the pivot j above it.
 pub record Below (sh : Shape) (s : TrackSet) (t j : ℕ) : Type 0 where

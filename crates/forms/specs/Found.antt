@@ -10,10 +10,10 @@ use Rattle.plans.specs.Plans.{pivot, room}
 use Rattle.forms.specs.Streams.{Stream, cut}
 use Rattle.forms.specs.Forms.{left, met, gap, point}
 
--- D has the diagonals of x and V its verticals.
-pub record Sums (sh : Shape) (x : Cells) (D V : TrackSet → Stream) : Type 0 where
+-- D has the diagonals of x and W its verticals.
+pub record Sums (sh : Shape) (x : Cells) (D W : TrackSet → Stream) : Type 0 where
   pub diagonals : (d : TrackSet) (m : ℕ) → m < track-length sh → D d m ≡ diagonal sh x d m % 2
-  pub verticals : (c : TrackSet) (m : ℕ) → m < track-length sh → V c m ≡ vertical sh x c m % 2
+  pub verticals : (c : TrackSet) (m : ℕ) → m < track-length sh → W c m ≡ vertical sh x c m % 2
 
 -- The data tracks of x are 0 in the tail.
 abbrev pub Tails : Shape → Cells → Type 0
@@ -58,10 +58,10 @@ module _ (sh : Shape) (end : ℕ) (p : Form) where
   abbrev pub stride : ℕ
   stride = across + along - (ahead + p .v)
 
-  module _ (D V : TrackSet → Stream) where
+  module _ (D W : TrackSet → Stream) where
     -- What is left with v's pair eliminated.
     abbrev pub eliminated-row : Stream
-    eliminated-row m = left sh end D V p (other s) (m + ahead) + back (left sh end D V p s) (m + ahead + p .v) across
+    eliminated-row m = left sh end D W p (other s) (m + ahead) + back (left sh end D W p s) (m + ahead + p .v) across
 
     -- X is the pair of u, U the error of u and E that of v, at the first n positions. Where there is one track below the pivots it is v.
     pub record Computed (X U E : Stream) (n : ℕ) : Type 0 where
@@ -69,17 +69,17 @@ module _ (sh : Shape) (end : ℕ) (p : Form) where
       pub upper : 2 ≤ p .below → (m : ℕ) → m < n → m < reach sh end (p .u) → U m ≡ (X m + back U m (gap sh q (p .u) (pivot p q))) % 2
       pub upper-end : 2 ≤ p .below → (m : ℕ) → m < n → reach sh end (p .u) ≤ m → U m ≡ 0
       pub lower : 1 ≤ p .below → (m : ℕ) → m < n → m < reach sh (track-length sh) (p .v) →
-          E m ≡ (left sh end D V p s (m + p .v) + low-sum (p .below) 0 (met sh end U s q (p .u) (pivot p q) (m + p .v))
+          E m ≡ (left sh end D W p s (m + p .v) + low-sum (p .below) 0 (met sh end U s q (p .u) (pivot p q) (m + p .v))
           + back (cut end E) m (gap sh s (p .v) (pivot p s))) % 2
       pub lower-end : 1 ≤ p .below → (m : ℕ) → m < n → reach sh (track-length sh) (p .v) ≤ m → E m ≡ 0
 
     -- What is left of the diagonal of set d, and of the vertical of set c, when the errors of u and v are taken off.
     unfoldable pub residue : Stream → Stream → TrackSet → Stream
-    residue U E d m = left sh end D V p d m
+    residue U E d m = left sh end D W p d m
         + low-sum (p .below) (met sh end E d s (p .v) (pivot p s) m) (met sh end U d q (p .u) (pivot p q) m)
 
     unfoldable pub pivot-sum : Stream → Stream → TrackSet → Stream
-    pivot-sum U E c m = V c m + low-sum (p .below) (only-in s c (E m)) (only-in q c (U m))
+    pivot-sum U E c m = W c m + low-sum (p .below) (only-in s c (E m)) (only-in q c (U m))
 
     -- The test of all sums and tails at the first n positions: the diagonals are 0, and what is left of the verticals is 0 where the pivots
     -- cannot be wrong.
