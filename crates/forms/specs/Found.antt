@@ -63,14 +63,17 @@ module _ (sh : Shape) (end : ℕ) (p : Form) where
     abbrev pub eliminated-row : Stream
     eliminated-row m = left sh end D W p (other s) (m + ahead) + back (left sh end D W p s) (m + ahead + p .v) across
 
+    -- What is left on v's diagonal with u taken off.
+    abbrev pub lower-row : Stream → Stream
+    lower-row U m = left sh end D W p s (m + p .v) + low-sum (p .below) 0 (met sh end U s q (p .u) (pivot p q) (m + p .v))
+
     -- X is the pair of u, U the error of u and E that of v, at the first n positions. Where there is one track below the pivots it is v.
     pub record Computed (X U E : Stream) (n : ℕ) : Type 0 where
       pub pair : 2 ≤ p .below → (m : ℕ) → m < n → m < reach sh end (p .u) → X m ≡ (eliminated-row m + back X m stride) % 2
       pub upper : 2 ≤ p .below → (m : ℕ) → m < n → m < reach sh end (p .u) → U m ≡ (X m + back U m (gap sh q (p .u) (pivot p q))) % 2
       pub upper-end : 2 ≤ p .below → (m : ℕ) → m < n → reach sh end (p .u) ≤ m → U m ≡ 0
       pub lower : 1 ≤ p .below → (m : ℕ) → m < n → m < reach sh (track-length sh) (p .v) →
-          E m ≡ (left sh end D W p s (m + p .v) + low-sum (p .below) 0 (met sh end U s q (p .u) (pivot p q) (m + p .v))
-          + back (cut end E) m (gap sh s (p .v) (pivot p s))) % 2
+          E m ≡ (lower-row U m + back (cut end E) m (gap sh s (p .v) (pivot p s))) % 2
       pub lower-end : 1 ≤ p .below → (m : ℕ) → m < n → reach sh (track-length sh) (p .v) ≤ m → E m ≡ 0
 
     -- What is left of the diagonal of set d, and of the vertical of set c, when the errors of u and v are taken off.
