@@ -1,0 +1,3 @@
+pub mod Inserting
+pub mod Finding
+pub mod Forming
