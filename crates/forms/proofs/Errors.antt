@@ -1,13 +1,10 @@
 -- What the sums of a record say of its errors on flagged tracks.
-use mathlib.Core.Path.{_≡_, refl, sym, ap, _∙_}
-use mathlib.Core.Logic.{_≢_}
-use mathlib.Core.Bool.{false}
+use mathlib.Core.Path.{_≡_, sym, ap}
 use mathlib.Core.List.{List, [], _∷_}
 use Prim.Native.Nat.{ℕ, zero, suc, _+_, _-_, _<_, _≤_, _%_}
 use native.Mathlib.Decide.{ℕ-discrete}
 use native.Mathlib.Omega.{arith}
-use Rattle.code.specs.Record.{TrackSet, A, B, other, Shape, data-tracks, tracks, lag, track-length, vertical-end, Cells, back, sum, diagonal, vertical, Good}
-use Rattle.code.specs.Flags.{TrackFlags, whole, AgreeOff}
+use Rattle.code.specs.Record.{TrackSet, A, B, Shape, data-tracks, tracks, lag, track-length, vertical-end, Cells, back, sum, diagonal, vertical, Good}
 use Rattle.code.proofs.Sums.{back-early, back-zero, sum-same, sum-zero}
 use Rattle.code.proofs.Cell.{vertical-within, tail-data}
 use Rattle.code.proofs.Linear.{_⊞_, plus, diagonal-add, vertical-add, diagonal-mod, vertical-mod}
@@ -21,7 +18,7 @@ off-above : (ts : List ℕ) (t n : ℕ) → Falls t ts → t ≤ n → Off n ts
 off-above [] t n o l = tt
 off-above (u ∷ us) t n o l = (omega arith, off-above us u n (o .1) (omega arith))
 
-pub sum-at : (n : ℕ) (ts : List ℕ) (f : ℕ → ℕ) → Falls n ts → ((t : ℕ) → t < n → Off t ts → f t ≡ 0) → sum n f ≡ total ts f
+sum-at : (n : ℕ) (ts : List ℕ) (f : ℕ → ℕ) → Falls n ts → ((t : ℕ) → t < n → Off t ts → f t ≡ 0) → sum n f ≡ total ts f
 unfolding sum
 sum-at n [] f o h = sum-zero n f (λ t l. h t l tt)
 sum-at zero (t ∷ ts) f o h = absurd (omega arith)
@@ -42,27 +39,19 @@ module _ (sh : Shape) (z : Cells) (m : ℕ) (b : m < track-length sh) where
   abbrev over : TrackSet → TrackSet → ℕ
   over d s = sum (tracks sh s) (λ t. back (z s t) m (offset sh d s t))
 
-  met : (d s : TrackSet) (k : ℕ → ℕ) → ((t : ℕ) → t ≤ data-tracks sh s → offset sh d s t ≡ k t) →
+  over-set : (d s : TrackSet) (k : ℕ → ℕ) → ((t : ℕ) → t ≤ data-tracks sh s → offset sh d s t ≡ k t) →
       sum (suc (data-tracks sh s)) (λ t. back (z s t) m (k t)) ≡ over d s
   unfolding sum
-  met d s k h = omega (
+  over-set d s k h = omega (
     arith,
     sum-same (suc (data-tracks sh s)) (λ t. back (z s t) m (k t)) (λ t. back (z s t) m (offset sh d s t)) (λ t l. ap (back (z s t) m) (sym (h t (omega arith)))),
     back-early (z s (suc (data-tracks sh s))) m (offset sh d s (suc (data-tracks sh s))) (omega (arith, offset-vertical sh d s (suc (data-tracks sh s)) (omega arith))),
   )
 
-  -- Either set may be named first.
-  pub diagonal-over : (s d : TrackSet) → diagonal sh z d m ≡ over d s + over d (other s)
+  diagonal-over : (d : TrackSet) → diagonal sh z d m ≡ over d A + over d B
   unfolding diagonal
-  diagonal-over A A = omega (arith, met A A (λ t. t) (λ t l. offset-both sh A t l .0), met A B (λ t. lag sh - t) (λ t l. offset-both sh B t l .1))
-  diagonal-over A B = omega (arith, met B B (λ t. t) (λ t l. offset-both sh B t l .0), met B A (λ t. lag sh - t) (λ t l. offset-both sh A t l .1))
-  diagonal-over B A = omega (arith, met A A (λ t. t) (λ t l. offset-both sh A t l .0), met A B (λ t. lag sh - t) (λ t l. offset-both sh B t l .1))
-  diagonal-over B B = omega (arith, met B B (λ t. t) (λ t l. offset-both sh B t l .0), met B A (λ t. lag sh - t) (λ t l. offset-both sh A t l .1))
-
--- From the project's flags.
-pub flagged-of : (sh : Shape) (f : TrackFlags) (x y : Cells) → AgreeOff sh (whole f) x y → (s : TrackSet) (ts : List ℕ) → Falls (tracks sh s) ts →
-    ((t : ℕ) → t < tracks sh s → Off t ts → f s t ≡ false) → Flagged sh x y s ts
-flagged-of sh f x y a s ts o h = record { order = o; agree = λ t m l q b. a .cell s t m l b (h t l q) }
+  diagonal-over A = omega (arith, over-set A A (λ t. t) (λ t l. offset-both sh A t l .0), over-set A B (λ t. lag sh - t) (λ t l. offset-both sh B t l .1))
+  diagonal-over B = omega (arith, over-set B B (λ t. t) (λ t l. offset-both sh B t l .0), over-set B A (λ t. lag sh - t) (λ t l. offset-both sh A t l .1))
 
 -- ## y is a good record, x any that agrees with it but on flagged tracks
 
@@ -87,17 +76,18 @@ module _ (sh : Shape) (x y : Cells) (gy : Good sh y) where
   )
 
   -- And so is either diagonal, over the flagged tracks of both sets.
-  pub diagonal-errors : (s d : TrackSet) (ts us : List ℕ) → Flagged sh x y s ts → Flagged sh x y (other s) us → (m : ℕ) → m < track-length sh →
-      (diagonal sh x d m + (total ts (λ t. back (plus x y s t) m (offset sh d s t)) + total us (λ t. back (plus x y (other s) t) m (offset sh d (other s) t)))) % 2 ≡ 0
-  diagonal-errors s d ts us fl gl m b = omega (
+  pub diagonal-errors : (d : TrackSet) (ts : TrackSet → List ℕ) → ((c : TrackSet) → Flagged sh x y c (ts c)) → (m : ℕ) → m < track-length sh →
+      (diagonal sh x d m + (total (ts A) (λ t. back (plus x y A t) m (offset sh d A t)) + total (ts B) (λ t. back (plus x y B t) m (offset sh d B t)))) % 2 ≡ 0
+  diagonal-errors d ts fl m b = omega (
     arith,
     diagonal-mod sh (x ⊞ y) d m,
     diagonal-add sh x y d m,
     gy .diagonals d m b,
-    diagonal-over sh (plus x y) m b s d,
-    few s ts fl,
-    few (other s) us gl,
+    diagonal-over sh (plus x y) m b d,
+    few A,
+    few B,
   )
     where
-      few : (u : TrackSet) (vs : List ℕ) → Flagged sh x y u vs → sum (tracks sh u) (λ t. back (plus x y u t) m (offset sh d u t)) ≡ total vs (λ t. back (plus x y u t) m (offset sh d u t))
-      few u vs hl = sum-at (tracks sh u) vs _ (hl .order) (λ t l o. back-zero (plus x y u t) m (offset sh d u t) (λ p e. clear u vs hl t p l o (omega arith)))
+      few : (c : TrackSet) → sum (tracks sh c) (λ t. back (plus x y c t) m (offset sh d c t)) ≡ total (ts c) (λ t. back (plus x y c t) m (offset sh d c t))
+      few c = sum-at (tracks sh c) (ts c) _ (fl c .order)
+          (λ t l o. back-zero (plus x y c t) m (offset sh d c t) (λ p e. clear c (ts c) (fl c) t p l o (omega arith)))

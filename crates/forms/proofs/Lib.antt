@@ -1,4 +1,7 @@
 pub mod Shifts
 pub mod Errors
+pub mod Lows
 pub mod Pivots
-pub mod Forms
+pub mod Strides
+pub mod Complete
+pub mod Sound
