@@ -117,9 +117,9 @@ pub record Stepped (z : Sizes) (end : ℕ) (p : Form) (rows before : List ℕ) (
 
 -- ## All words
 
--- All sums are 0 up to a word past the start, and no error has been put before it.
+-- Where there are words before the start, all sums are 0 up to a word past it; and no error has been put before it.
 pub record Quiet (z : Sizes) (rows : List ℕ) (start : ℕ) : Type 0 where
-  pub zero : (r m : ℕ) → r < 4 → m < 64 * (start + 1) → m < track-length (shape z) → cell rows r m ≡ 0
+  pub zero : 0 < start → (r m : ℕ) → r < 4 → m < 64 * (start + 1) → m < track-length (shape z) → cell rows r m ≡ 0
 
 pub record Fresh (found : List ℕ) (start : ℕ) : Type 0 where
   pub rows : Rows 5 found

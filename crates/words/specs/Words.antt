@@ -35,11 +35,6 @@ pub record Fed (r prior d n x : ℕ) : Type 0 where
 
 -- ## Loading and unloading
 
--- Words have the cells of a stretch, and 0 past its end.
-pub record Loaded (stretch before after : List ℕ) : Type 0 where
-  pub size : length after ≡ length before
-  pub cells : (m : ℕ) → bit-at after m ≡ getD stretch m 0
-
 -- Where bit p comes from in an exchange of the mask's bits with those s positions above.
 unfoldable pub source : ℕ → ℕ → ℕ → ℕ
 source s mask p = p + s * bit mask p - s * back (bit mask) p s

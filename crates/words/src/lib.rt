@@ -9,7 +9,6 @@ ghost use Rattle.words.specs.Words.{
   First,
   Quotient,
   Fed,
-  Loaded,
   Swapped,
   Spaced,
   Packed,
@@ -141,7 +140,7 @@ fn rest_word(stretch: &[u8], at: usize) -> u64
 }
 
 // Word i of a stretch's cells.
-fn word_of(stretch: &[u8], i: usize) -> u64
+pub fn word_of(stretch: &[u8], i: usize) -> u64
     requires { ⌜ Bits (now stretch) ⌝ }
     ensures { λ r. ⌜ ((j m : ℕ) → j < 64 → i * 64 + j ≡ m → bit r j ≡ getD (now (stretch .entry)) m 0) ⌝ }
 {
@@ -153,20 +152,6 @@ fn word_of(stretch: &[u8], i: usize) -> u64
         return rest_word(stretch, i * 64);
     }
     0
-}
-
-// Packs a stretch of cells.
-pub fn load_track(stretch: &[u8], words: &mut [u64])
-    requires { ⌜ length (now stretch) ≤ 64 * length (now words) ⌝ }
-    requires { ⌜ Bits (now stretch) ⌝ }
-    ensures { λ _. ⌜ Loaded (now (stretch .entry)) (now (words .entry)) (now (words .exit)) ⌝ }
-{
-    let n = words.len();
-    let mut i = 0;
-    while i < n {
-        words[i] = word_of(stretch, i);
-        i += 1;
-    }
 }
 
 // ---- Unloading
