@@ -23,9 +23,9 @@ pub record RowLoaded (stretch before : List ℕ) (r : ℕ) (after : List ℕ) : 
   pub there : (q : ℕ) → q < 4 → q ≢ r → cell after q ≡ cell before q
 
 -- Four rows of words have the cells of the first n of four rows of l bytes.
-pub record RowsOf (l n : ℕ) (syn rows : List ℕ) : Type 0 where
-  pub rows : Rows 4 rows
-  pub cells : (r m : ℕ) → r < n → m < l → cell rows r m ≡ getD syn (r * l + m) 0
+pub record RowsOf (l n : ℕ) (syn words : List ℕ) : Type 0 where
+  pub rows : Rows 4 words
+  pub cells : (r m : ℕ) → r < n → m < l → cell words r m ≡ getD syn (r * l + m) 0
 
 -- A word past which the first sum that is not 0 comes, of l; or the last word and more, where all are 0.
 pub record StartOf (l : ℕ) (rows : List ℕ) (start : ℕ) : Type 0 where
