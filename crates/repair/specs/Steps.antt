@@ -3,43 +3,62 @@ use mathlib.Core.Path.{_≡_}
 use mathlib.Core.Logic.{_≢_}
 use mathlib.Core.Bool.{Bool, true, false}
 use mathlib.Core.List.{List}
-use Prim.Native.Nat.{ℕ, _+_, _*_, _<_, _≤_}
-use lib.ListN.{length, getD}
-use Rattle.code.specs.Record.{TrackSet, A, B, Shape, tracks, track-length, Cells, Good}
-use Rattle.code.specs.Image.{all-tracks, image-size, cells}
-use Rattle.code.specs.Flags.{TrackFlags, whole, AgreeOff, Within}
+use Prim.Native.Nat.{ℕ, suc, _+_, _<_, _≤_}
+use lib.ListN.{length}
+use Rattle.code.specs.Record.{TrackSet, A, B, data-tracks, tracks, track-length}
+use Rattle.code.specs.Image.{image-size, cells}
+use Rattle.code.specs.Flags.{TrackFlags}
 use Rattle.code.specs.Lost.{is-lost}
 use Rattle.code.specs.Reach.{flags-code, Extra}
 use Rattle.code.specs.Sizes.{shape, Small}
 use Rattle.code.specs.declared.Sizes.{Sizes}
-use Rattle.syndrome.specs.Syndrome.{Kept}
+use Rattle.syndrome.specs.Syndrome.{row-of, Image}
 use Rattle.solver.specs.Solver.{marked}
 use Rattle.flags.specs.Marks.{ReadImage}
+use Rattle.plans.specs.declared.Form.{Form}
+use Rattle.forms.specs.Found.{Sums, Tails, errors}
+use Rattle.errors.specs.Rows.{cell, Rows, diagonals, verticals}
+use Rattle.errors.specs.Steps.{Found}
+use Rattle.mend.specs.Mend.{Added, TailsBut}
+use Rattle.repair.specs.declared.Needs.{Needs}
 
 -- ## Working copies
 
--- Track number g is the image's again, and no other is changed.
-pub record TrackBack (l g : ℕ) (image out after : List ℕ) : Type 0 where
-  pub size : length after ≡ length out
-  pub here : (m : ℕ) → m < l → getD after (g * l + m) 0 ≡ getD image (g * l + m) 0
-  pub there : (k m : ℕ) → k ≢ g → m < l → getD after (k * l + m) 0 ≡ getD out (k * l + m) 0
+-- Four rows of words have the sums of a working copy.
+pub record SumsIn (z : Sizes) (out words : List ℕ) : Type 0 where
+  pub rows : Rows 4 words
+  pub sums : Sums (shape z) (cells (shape z) out) (diagonals words) (verticals words)
+
+abbrev pub need-of : Needs → TrackSet → ℕ
+need-of need A = need .a
+need-of need B = need .b
+
+-- A working copy with its sums: it is the image, a list of bits, but that its data tracks are 0 in the tail. The needs say which extra
+-- tracks explain tails that were not.
+pub record Prepared (z : Sizes) (f : TrackFlags) (image out words : List ℕ) (need : Needs) : Type 0 where
+  pub small : Small z
+  pub copy : Image (shape z) out
+  pub sums-in : SumsIn z out words
+  pub tails : Tails (shape z) (cells (shape z) out)
+  pub same : (s : TrackSet) (t m : ℕ) → t < tracks (shape z) s → m < track-length (shape z) → (1 ≤ t → t ≤ data-tracks (shape z) s → z .positions ≤ m → ⊥) →
+      cells (shape z) out s t m ≡ cells (shape z) image s t m
+  pub fits : (s : TrackSet) (e : ℕ) → (need-of need s ≢ 0 → need-of need s ≡ e) → TailsBut z s f image (suc (data-tracks (shape z) s)) e
+  pub fails : (s : TrackSet) (e : ℕ) → e ≤ 9 → need-of need s ≢ 0 → need-of need s ≢ e → TailsBut z s f image (suc (data-tracks (shape z) s)) e → ⊥
 
 -- ## One set of flags
 
--- A copy of the image, the image's syndromes, and marks that the code can repair.
-pub record Workable (z : Sizes) (marks image out syn : List ℕ) : Type 0 where
-  pub kept : Kept z image syn
-  pub copy : out ≡ image
-  pub marks-size : all-tracks (shape z) ≤ length marks
-  pub within : Within (shape z) (marked (shape z) marks)
+-- The errors that rows of words have, of a form's tracks.
+abbrev pub errors-in : Form → List ℕ → (TrackSet → ℕ → ℕ → ℕ)
+errors-in p words = errors p (λ c. cell words (2 + row-of c)) (cell words 0) (cell words 1)
 
--- What comes of them: true with a good record, or false, and there is none, and the output is the image again.
-pub record Worked (sh : Shape) (f : TrackFlags) (image after : List ℕ) (r : Bool) : Type 0 where
-  pub size : length after ≡ image-size sh
-  pub good : r ≡ true → Good sh (cells sh after)
-  pub agree : r ≡ true → AgreeOff sh (whole f) (cells sh image) (cells sh after)
-  pub no-record : r ≡ false → (y : Cells) → Good sh y → AgreeOff sh (whole f) (cells sh image) y → ⊥
-  pub back : r ≡ false → after ≡ image
+-- Errors were found, pass all tests, and are added; or, where nothing is needed, they fail one.
+pub record MadeGood (z : Sizes) (need : Needs) (p : Form) (rows before after : List ℕ) (r : Bool) : Type 0 where
+  pub size : length after ≡ length before
+  pub words : List ℕ
+  pub none-needed : r ≡ true → (s : TrackSet) → need-of need s ≡ 0
+  pub found : r ≡ true → Found z (track-length (shape z)) p rows words true
+  pub added : r ≡ true → Added z (errors-in p words) before after
+  pub failed : r ≡ false → ((s : TrackSet) → need-of need s ≡ 0) → Found z (track-length (shape z)) p rows words false
 
 -- The extras that an answer has.
 abbrev pub names : Extra → Extra → TrackSet → Extra

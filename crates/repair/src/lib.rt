@@ -1,24 +1,31 @@
-// Repairer, and what the tracer shares with it: the checks, working copies, one set of flags.
+// Repairer, and what the tracer shares with it: the checks, and working copies with their sums.
 use checks::Checked;
 use code::Answer;
 use code::Extra;
 use code::Sizes;
 use code::plain_answer;
+use plans::Form;
 ghost use mathlib.Core.Path.{_≡_};
-ghost use Rattle.code.specs.Record.{base};
-ghost use Rattle.code.specs.Image.{cells};
+ghost use Prim.Native.Nat.{_*_, _≤_};
+ghost use lib.ListN.{length};
+ghost use Rattle.code.specs.Record.{track-length, base};
+ghost use Rattle.code.specs.Image.{all-tracks, image-size, cells};
 ghost use Rattle.code.specs.Flags.{whole};
 ghost use Rattle.code.specs.Lost.{read-values};
 ghost use Rattle.code.specs.Calls.{early-checks, mended, Repairs};
 ghost use Rattle.code.specs.Contracts.{Repaired};
 ghost use Rattle.code.specs.Answers.{extra-of, result-of};
-ghost use Rattle.code.specs.Sizes.{shape};
-ghost use Rattle.track.specs.Track.{Readings, known};
+ghost use Rattle.code.specs.Sizes.{shape, Small};
+ghost use Rattle.track.specs.Track.{known};
 ghost use Rattle.checks.specs.First.{FirstAnswer};
 ghost use Rattle.checks.specs.Lost.{LostTold};
+ghost use Rattle.syndrome.specs.Syndrome.{Image};
 ghost use Rattle.solver.specs.Solver.{marked};
-ghost use Rattle.changes.specs.Changes.{HasTrack, OnlyMarked};
-ghost use Rattle.repair.specs.Steps.{TrackBack, Workable, Worked, names, Given};
+ghost use Rattle.flags.specs.Marks.{ReadImage};
+ghost use Rattle.changes.specs.Changes.{OnlyMarked};
+ghost use Rattle.plans.specs.Plans.{Sized};
+ghost use Rattle.errors.specs.Rows.{Rows};
+ghost use Rattle.repair.specs.Steps.{names, Given, SumsIn, Prepared, MadeGood};
 
 // ---- Checks
 
@@ -49,43 +56,56 @@ pub fn check(blocks: u32, flags: u32, image: &[u8], room: usize) -> Checked
 
 // ---- Working copies
 
-// Makes track number g of a working copy anew.
-fn restore_track(image: &[u8], out: &mut [u8], l: usize, g: usize)
-    requires { ⌜ HasTrack l g (now image) (now out) ⌝ }
-    requires { ⌜ Readings (now image) ⌝ }
-    ensures { λ _. ⌜ TrackBack l g (known (now (image .entry))) (now (out .entry)) (now (out .exit)) ⌝ }
-{
-    let start = g * l;
-    let end = start + l;
-    track::copy_known(&mut out[start..end], &image[start..end]);
+// For each set 0, t + 1 or 16: where tails of tracks without a mark were not 0, the one extra track that explains them, or none does.
+pub struct Needs {
+    pub a: usize,
+    pub b: usize,
 }
 
-// Makes the marked tracks of a working copy anew, of which alone any are changed.
-fn restore(z: Sizes, marks: &[u8], image: &[u8], out: &mut [u8])
-    requires { ⌜ OnlyMarked z (now marks) (known (now image)) (now out) ⌝ }
-    requires { ⌜ Readings (now image) ⌝ }
-    ensures { λ _. ⌜ now (out .exit) ≡ known (now (image .entry)) ⌝ }
+// Loads the sums of a working copy, by way of four rows of bytes.
+fn load_by(z: Sizes, out: &[u8], syn: &mut [u8], rows: &mut [u64])
+    requires { ⌜ Small z ⌝ }
+    requires { ⌜ Image (shape z) (now out) ⌝ }
+    requires { ⌜ length (now syn) ≡ 4 * track-length (shape z) ⌝ }
+    requires { ⌜ Rows 4 (now rows) ⌝ }
+    ensures { λ _. ⌜ SumsIn z (now (out .entry)) (now (rows .exit)) ⌝ }
 {
     let l = z.positions + (z.t1 + z.t2 + 1);
-    let all = z.t1 + z.t2 + 4;
-    let mut g = 0;
-    while g < all {
-        if marks[g] == 1 {
-            restore_track(image, out, l, g);
-        }
-        g += 1;
+    sums::syndromes(out, z, syn);
+    mend::load_rows(syn, l, rows);
+}
+
+// Loads the sums of a working copy. A short record takes less room.
+fn load_sums(z: Sizes, out: &[u8], rows: &mut [u64])
+    requires { ⌜ Small z ⌝ }
+    requires { ⌜ Image (shape z) (now out) ⌝ }
+    requires { ⌜ Rows 4 (now rows) ⌝ }
+    ensures { λ _. ⌜ SumsIn z (now (out .entry)) (now (rows .exit)) ⌝ }
+{
+    let l = z.positions + (z.t1 + z.t2 + 1);
+    if l <= 143 {
+        let mut room = [0u8; 572];
+        load_by(z, out, &mut room[..4 * l], rows);
+    } else {
+        let mut room = [0u8; 8252];
+        load_by(z, out, &mut room[..4 * l], rows);
     }
 }
 
-// Makes the image of a working copy: its lost cells are lost again, where it has any.
-pub fn put_back(image: &[u8], out: &mut [u8], lost: bool)
-    requires { ⌜ now out ≡ known (now image) ⌝ }
-    requires { ⌜ LostTold (now image) lost ⌝ }
-    ensures { λ _. ⌜ now (out .exit) ≡ now (image .entry) ⌝ }
+// Makes a working copy of the image, whose data tracks are 0 in the tail, and loads its sums.
+pub fn prepare(z: Sizes, marks: &[u8], image: &[u8], out: &mut [u8], rows: &mut [u64]) -> Needs
+    requires { ⌜ Small z ⌝ }
+    requires { ⌜ ReadImage (shape z) (now image) ⌝ }
+    requires { ⌜ length (now out) ≡ image-size (shape z) ⌝ }
+    requires { ⌜ all-tracks (shape z) ≤ length (now marks) ⌝ }
+    requires { ⌜ Rows 4 (now rows) ⌝ }
+    ensures { λ r. ⌜ Prepared z (marked (shape z) (now (marks .entry))) (known (now (image .entry))) (now (out .exit)) (now (rows .exit)) r ⌝ }
 {
-    if lost {
-        track::copy_into(out, image);
-    }
+    track::copy_known(out, image);
+    let a = mend::clear_tails(z, marks, out, 0);
+    let b = mend::clear_tails(z, marks, out, 1);
+    load_sums(z, out, rows);
+    Needs { a, b }
 }
 
 // The answer 0 with what was changed, where marked tracks alone were, and with these extras.
@@ -106,36 +126,45 @@ pub fn answer_of(z: Sizes, marks: &[u8], image: &[u8], out: &[u8], a: Extra, b: 
 
 // ---- One set of flags
 
-// Solves a working copy of the image by the marked tracks. Where there is no good record the output is the working copy again.
-pub fn work(z: Sizes, marks: &[u8], image: &[u8], out: &mut [u8], syn: &mut [u8]) -> bool
-    requires { ⌜ Workable z (now marks) (known (now image)) (now out) (now syn) ⌝ }
-    requires { ⌜ Readings (now image) ⌝ }
-    ensures { λ r. ⌜ Worked (shape z) (marked (shape z) (now (marks .entry))) (known (now (image .entry))) (now (out .exit)) r ⌝ }
+// Finds the errors of a form's tracks and adds them. True: the working copy is a good record now. False: there is none.
+fn make_good(z: Sizes, need: Needs, p: Form, out: &mut [u8], rows: &[u64]) -> bool
+    requires { ⌜ Small z ⌝ }
+    requires { ⌜ Image (shape z) (now out) ⌝ }
+    requires { ⌜ Rows 4 (now rows) ⌝ }
+    requires { ⌜ Sized (shape z) p ⌝ }
+    ensures { λ r. ⌜ MadeGood z need p (now (rows .entry)) (now (out .entry)) (now (out .exit)) r ⌝ }
 {
-    let a = solver::make_plan(marks, z, 0);
-    let b = solver::make_plan(marks, z, 1);
-    if solver::solve(out, syn, z, a, b) {
-        return true;
+    let l = z.positions + (z.t1 + z.t2 + 1);
+    if need.a != 0 {
+        return false;
     }
-    restore(z, marks, image, out);
-    false
+    if need.b != 0 {
+        return false;
+    }
+    let start = mend::find_start(rows, l);
+    let mut found = [0u64; 171];
+    if !errors::find(rows, &mut found, z, l, p, start) {
+        return false;
+    }
+    mend::add_errors(out, z, p, &found);
+    true
 }
 
 // Repairs into the output, of the image's size.
-fn repair_record(z: Sizes, marks: [u8; 18], image: &[u8], out: &mut [u8], lost: bool) -> Answer
+fn repair_record(z: Sizes, marks: [u8; 18], image: &[u8], out: &mut [u8]) -> Answer
     requires { ⌜ Given z marks (now image) (now out) ⌝ }
-    requires { ⌜ LostTold (now image) lost ⌝ }
     ensures { λ r. ⌜ Repairs (shape z) (whole (marked (shape z) marks)) (now (image .entry)) (now (out .entry)) (result-of r) (now (out .exit)) ⌝ }
 {
     let l = z.positions + (z.t1 + z.t2 + 1);
-    track::copy_known(out, image);
-    let mut room = [0u8; 8252];
-    let syn = &mut room[..4 * l];
-    sums::syndromes(out, z, syn);
-    if work(z, &marks, image, out, syn) {
+    let mut rows = [0u64; 137];
+    let need = prepare(z, &marks, image, out, &mut rows);
+    let x = plans::find_three(&marks, z, 0);
+    let y = plans::find_three(&marks, z, 1);
+    let p = plans::form_of(z, l, x, y);
+    if make_good(z, need, p, out, &rows) {
         return answer_of(z, &marks, image, out, Extra::None, Extra::None);
     }
-    put_back(image, out, lost);
+    track::copy_into(out, image);
     plain_answer(7, 0)
 }
 
@@ -158,5 +187,5 @@ pub fn repair(blocks: u32, flags: u32, image: &[u8], out: &mut [u8]) -> Answer
     if flags::code_of(z, &marks) == 0 {
         return plain_answer(6, 0);
     }
-    repair_record(z, marks, image, &mut out[..18 * (8 * n + 15)], seen.lost)
+    repair_record(z, marks, image, &mut out[..18 * (8 * n + 15)])
 }

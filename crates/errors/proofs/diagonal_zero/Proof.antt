@@ -1,0 +1,51 @@
+-- `diagonal_zero`: a word is 0 if its cells are.
+use native.Mathlib.Omega.{arith}
+use borrow.Author.Needs.{needs}
+use denote.Ref.{now}
+use Rattle.syndrome.specs.Syndrome.{set-of}
+use Rattle.errors.proofs.Pivoting.{diagonal-told}
+use Rattle.errors.proofs.diagonal_zero.Statement.{statement}
+use Rattle.errors.proofs.diagonal_zero.Tie as tie
+
+add-l : tie.Need-add-l
+add-l c = search needs
+
+add-l-2 : tie.Need-add-l-2
+add-l-2 c = search needs
+
+add-l-3 : tie.Need-add-l-3
+add-l-3 c = search needs
+
+mul-residue-at : tie.Need-mul-residue-at
+mul-residue-at c = search needs
+
+add-residue-at : tie.Need-add-residue-at
+add-residue-at c = search needs
+
+residue-at-requires : tie.Need-residue-at-requires
+residue-at-requires c κs = let p = c .before .before .before .before .pre in (p .0, (p .1 .0, (omega arith, omega (arith, p .0 .small .t1-small))))
+
+rest-requires : tie.Need-rest-requires
+rest-requires c κs = search needs
+
+first-cells-requires : tie.Need-first-cells-requires
+first-cells-requires c κs = search needs
+
+returns : tie.Need-returns
+returns c = let q = c .before .before .before .before .before .before .before in let a = q .args in
+    diagonal-told (a .z) (a .end) (a .p) (now (a .rows)) (now (a .found)) (set-of (a .d)) (a .i) _ (c .first-cells .result) _ (omega arith) (c .before .before .residue-at .ensures)
+    (c .before .rest .ensures) (c .first-cells .ensures)
+
+pub diagonal-zero-spec : {M : Type 1} → statement M
+diagonal-zero-spec =
+    tie.close
+    (tie.spec
+    add-l
+    add-l-2
+    add-l-3
+    mul-residue-at
+    add-residue-at
+    residue-at-requires
+    rest-requires
+    first-cells-requires
+    returns)
