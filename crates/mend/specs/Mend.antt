@@ -70,5 +70,5 @@ pub record TailsCleared (z : Sizes) (s : TrackSet) (f : TrackFlags) (n : ℕ) (b
   pub zero : (t m : ℕ) → 1 ≤ t → t < n → z .positions ≤ m → m < track-length (shape z) → cells (shape z) after s t m ≡ 0
   pub same : (c : TrackSet) (t m : ℕ) → t < tracks (shape z) c → m < track-length (shape z) → (c ≡ s → 1 ≤ t → t < n → z .positions ≤ m → ⊥) →
       cells (shape z) after c t m ≡ cells (shape z) before c t m
-  pub fits : (e : ℕ) → (need ≢ 0 → need ≡ e) → TailsBut z s f before n e
+  pub fits : (e : ℕ) → e ≤ 9 → (need ≢ 0 → need ≡ e) → TailsBut z s f before n e
   pub fails : (e : ℕ) → e ≤ 9 → need ≢ 0 → need ≢ e → TailsBut z s f before n e → ⊥

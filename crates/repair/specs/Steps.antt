@@ -42,7 +42,7 @@ pub record Prepared (z : Sizes) (f : TrackFlags) (image out words : List ℕ) (n
   pub tails : Tails (shape z) (cells (shape z) out)
   pub same : (s : TrackSet) (t m : ℕ) → t < tracks (shape z) s → m < track-length (shape z) → (1 ≤ t → t ≤ data-tracks (shape z) s → z .positions ≤ m → ⊥) →
       cells (shape z) out s t m ≡ cells (shape z) image s t m
-  pub fits : (s : TrackSet) (e : ℕ) → (need-of need s ≢ 0 → need-of need s ≡ e) → TailsBut z s f image (suc (data-tracks (shape z) s)) e
+  pub fits : (s : TrackSet) (e : ℕ) → e ≤ 9 → (need-of need s ≢ 0 → need-of need s ≡ e) → TailsBut z s f image (suc (data-tracks (shape z) s)) e
   pub fails : (s : TrackSet) (e : ℕ) → e ≤ 9 → need-of need s ≢ 0 → need-of need s ≢ e → TailsBut z s f image (suc (data-tracks (shape z) s)) e → ⊥
 
 -- ## One set of flags
