@@ -2,6 +2,10 @@ pub mod Shown
 pub mod Cells
 pub mod Charging
 pub mod LowTracks
+pub mod Points
+pub mod Numbers
+pub mod Words
+pub mod Lows
 pub mod Pivoting
 pub mod Stepping
 pub mod Beginning

@@ -44,8 +44,8 @@ module _ (sh : Shape) (end : ℕ) (p : Form) (D W : TrackSet → Stream) (U E U�
       let s = set-of (p .s) in
       let q = set-of (p .q) in
       ap (λ v. left sh end D W p d m + v) (low-same (p .below) (met sh end E d s (p .v) (pivot p s) m) (met sh end U d q (p .u) (pivot p q) m)
-          (met sh end E′ d s (p .v) (pivot p s) m) (met sh end U′ d q (p .u) (pivot p q) m)
-          (λ h. met-early E E′ same-e d s (p .v) (pivot p s)) (λ h. met-early U U′ same-u d q (p .u) (pivot p q)))
+      (met sh end E′ d s (p .v) (pivot p s) m) (met sh end U′ d q (p .u) (pivot p q) m)
+      (λ h. met-early E E′ same-e d s (p .v) (pivot p s)) (λ h. met-early U U′ same-u d q (p .u) (pivot p q)))
 
   pub pivot-sum-early : (c : TrackSet) → pivot-sum sh end p D W U E c m ≡ pivot-sum sh end p D W U′ E′ c m
   unfolding pivot-sum
@@ -118,9 +118,9 @@ module _ (z : Sizes) (end : ℕ) (p : Form) (rows before : List ℕ) (i : ℕ) w
         residue (shape z) end p (diagonals rows) (verticals rows) (cell last 0) (cell last 1) d m % 2 ≡ 0
     diagonals-right d m h b = by-cases (decLt m (64 * i))
         (λ l. ap (λ k. k % 2) (residue-early (shape z) end p (diagonals rows) (verticals rows) _ _ _ _ m
-            (λ q o. all-later .early 0 q (omega arith) (omega arith)) (λ q o. all-later .early 1 q (omega arith) (omega arith)) d) ∙ t .diagonals d m l b)
+        (λ q o. all-later .early 0 q (omega arith) (omega arith)) (λ q o. all-later .early 1 q (omega arith) (omega arith)) d) ∙ t .diagonals d m l b)
         (λ l. ap (λ k. k % 2) (residue-early (shape z) end p (diagonals rows) (verticals rows) _ _ _ _ m
-            (λ q o. ap (λ f. f q) (same 0 (omega arith))) (λ q o. ap (λ f. f q) (same 1 (omega arith))) d) ∙ word-zero d m (omega arith) h b)
+        (λ q o. ap (λ f. f q) (same 0 (omega arith))) (λ q o. ap (λ f. f q) (same 1 (omega arith))) d) ∙ word-zero d m (omega arith) h b)
 
     from-mid : (c : TrackSet) (m : ℕ) → pivot-sum (shape z) end p (diagonals rows) (verticals rows) (cell last 0) (cell last 1) c m
         ≡ pivot-sum (shape z) end p (diagonals rows) (verticals rows) (cell mid 0) (cell mid 1) c m

@@ -299,7 +299,12 @@ fn put_upper(rows: &[u64], found: &mut [u64], z: Sizes, end: usize, p: Form, i: 
     let pair = pair_word(rows, found, z, end, p, i);
     put_word(found, 4, i, pair);
     let w = upper_word(found, z, p, pair, i);
-    put_word(found, 0, i, words::first_cells(w, rest(reach_of(z, end, p.u), i)));
+    put_word(
+        found,
+        0,
+        i,
+        words::first_cells(w, rest(reach_of(z, end, p.u), i)),
+    );
 }
 
 // Puts word i of v's error, which ends where v can be wrong.
@@ -311,7 +316,12 @@ fn put_lower(rows: &[u64], found: &mut [u64], z: Sizes, end: usize, p: Form, i: 
 {
     let l = z.positions + (z.t1 + z.t2 + 1);
     let w = lower_word(rows, found, z, end, p, i);
-    put_word(found, 1, i, words::first_cells(w, rest(reach_of(z, l, p.v), i)));
+    put_word(
+        found,
+        1,
+        i,
+        words::first_cells(w, rest(reach_of(z, l, p.v), i)),
+    );
 }
 
 // Puts word i of the errors below the pivots.
@@ -376,7 +386,11 @@ fn diagonal_zero(
     ensures { λ r. ⌜ DiagonalTold z end p (now (rows .entry)) (now (found .entry)) (set-of d) i r ⌝ }
 {
     let l = z.positions + (z.t1 + z.t2 + 1);
-    words::first_cells(residue_at(rows, found, z, end, p, d, 64 * i + 64), rest(l, i)) == 0
+    words::first_cells(
+        residue_at(rows, found, z, end, p, d, 64 * i + 64),
+        rest(l, i),
+    )
+        == 0
 }
 
 // Word i of the vertical of set c with the errors below its pivot taken off.

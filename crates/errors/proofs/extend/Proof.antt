@@ -1,34 +1,61 @@
+-- `extend`: u's words before v's; what is void needs none.
+use mathlib.Core.Path.{sym, _∙_}
+use mathlib.Core.Logic.{⊎-elim}
+use Prim.Native.Nat.{_≤_}
+use native.Mathlib.Omega.{arith}
+use denote.Ref.{now}
 use borrow.Author.Needs.{needs}
+use Rattle.errors.specs.Steps.{Later, UpperPut}
+use Rattle.errors.proofs.Lows.{later-same, extended, extended-none}
 use Rattle.errors.proofs.extend.Statement.{statement}
 use Rattle.errors.proofs.extend.Tie as tie
-use Rattle.errors.proofs.extend.Reads as reads
-use Rattle.errors.proofs.extend.Lts as lts
-use Rattle.errors.proofs.put_lower.Reads as put-lower-reads
-use Rattle.errors.proofs.put_upper.Reads as put-upper-reads
 
--- src/lib.rt:325:9
 put-upper-requires : tie.Need-put-upper-requires
 put-upper-requires c κs = search needs
 
--- src/lib.rt:328:9
-put-lower-requires : tie.Need-put-lower-requires
-put-lower-requires c κs = ?
+-- Where the arms meet, u's words are put if there is u.
+uppers : (c : tie.Joined1) →
+    let s = c .before .before .before .before in
+    Later (s .args .i) (now (s .args .found)) (c .if1 .found) × (2 ≤ s .args .p .below →
+    UpperPut (s .args .z) (s .args .end) (s .args .p) (now (s .args .rows)) (now (s .args .found)) (s .args .i) (c .if1 .found))
+uppers c =
+    let s = c .before .before .before .before in
+    let a = s .args in
+    ⊎-elim
+    (λ w. rw (w .5) (w .2 .ensures .later, λ two. w .2 .ensures))
+    (λ w. rw (w .1) (later-same (a .z) (a .end) (a .p) (now (a .rows)) (now (a .found)) (a .i) (s .pre .0 .errors), λ two. absurd (omega arith)))
+    (c .if1 .came)
 
--- src/lib.rt:318:1
+put-lower-requires : tie.Need-put-lower-requires
+put-lower-requires c κs =
+    let j = c .before .before .before in
+    let s = j .before .before .before .before in
+    let g = s .pre .0 in
+    (record { small = g .small; end-small = g .end-small; sized = g .sized; sums = g .sums; errors = uppers j .0 .rows }, (omega arith, omega arith))
+
 same-length : tie.Need-same-length
 same-length c = search needs
 
--- src/lib.rt:318:1
 returns : tie.Need-returns
-returns c = ?
+returns c =
+    let l = c .before .before in
+    let j = l .before .before .before .before in
+    let s = j .before .before .before .before in
+    let a = s .args in
+    extended (a .z) (a .end) (a .p) (now (a .rows)) (now (a .found)) (a .i) _ _ (s .pre .0 .sized) (s .pre .0 .end-small) (omega arith) (s .pre .1 .1)
+    (uppers j .0) (uppers j .1) (l .put-lower .ensures)
 
--- src/lib.rt:318:1
 same-length-2 : tie.Need-same-length-2
-same-length-2 c = ?
+same-length-2 c =
+    let j = c .before .before in
+    uppers j .0 .rows .size ∙ sym (j .before .before .before .before .pre .0 .errors .size)
 
--- src/lib.rt:318:1
 returns-2 : tie.Need-returns-2
-returns-2 c = ?
+returns-2 c =
+    let j = c .before .before in
+    let s = j .before .before .before .before in
+    let a = s .args in
+    extended-none (a .z) (a .end) (a .p) (now (a .rows)) (now (a .found)) (a .i) _ (omega arith) (uppers j .0)
 
 pub extend-spec : {M : Type 1} → statement M
 extend-spec =

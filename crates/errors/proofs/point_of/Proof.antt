@@ -1,49 +1,65 @@
+-- `point_of`: by the sets, and by whether the pivot is the vertical track.
+use Prim.Native.Nat.{_<_, _≤_}
+use native.Mathlib.Omega.{arith}
 use borrow.Author.Needs.{needs}
+use Rattle.code.specs.Record.{data-tracks}
+use Rattle.code.specs.Sizes.{shape}
+use Rattle.syndrome.specs.Syndrome.{set-of}
+use Rattle.errors.proofs.Points.{point-same, point-other, top-track, top-pivot, data-small}
 use Rattle.errors.proofs.point_of.Statement.{statement}
 use Rattle.errors.proofs.point_of.Tie as tie
-use Rattle.errors.proofs.point_of.Reads as reads
-use Rattle.errors.proofs.point_of.Lts as lts
-use Rattle.syndrome.proofs.data_tracks.Reads as data-tracks-reads
 
--- src/lib.rt:192:9
 returns : tie.Need-returns
-returns c = ?
+returns c =
+    let a = c .before .args in
+    (point-same (shape (a .z)) (a .d) (a .s) (a .t) (a .j) (omega arith), omega (arith, data-small (shape (a .z)) (set-of (a .s))))
 
--- src/lib.rt:194:8
 data-tracks-requires : tie.Need-data-tracks-requires
 data-tracks-requires c κs = search needs
 
--- src/lib.rt:195:16
 add-result : tie.Need-add-result
 add-result c = search needs
 
--- src/lib.rt:195:16
 add-result-2 : tie.Need-add-result-2
 add-result-2 c = search needs
 
--- src/lib.rt:195:16
 sub-result : tie.Need-sub-result
 sub-result c = search needs
 
--- src/lib.rt:195:9
 returns-2 : tie.Need-returns-2
-returns-2 c = ?
+returns-2 c =
+    let d = c .before .before in
+    let a = d .before .before .args in
+    let far : data-tracks (shape (a .z)) (set-of (a .s)) < a .j = omega (arith, d .data-tracks .ensures .is) in (
+      omega (
+        arith,
+        point-other (shape (a .z)) (a .d) (a .s) (a .t) (a .j) (omega arith) (omega arith) (omega arith),
+        top-track (shape (a .z)) (set-of (a .s)) (a .t) (a .j) far,
+      ),
+      omega arith,
+    )
 
--- src/lib.rt:197:5
 add-result-3 : tie.Need-add-result-3
 add-result-3 c = search needs
 
--- src/lib.rt:197:5
 add-result-4 : tie.Need-add-result-4
 add-result-4 c = search needs
 
--- src/lib.rt:197:5
 sub-result-2 : tie.Need-sub-result-2
 sub-result-2 c = search needs
 
--- src/lib.rt:183:1
 returns-3 : tie.Need-returns-3
-returns-3 c = ?
+returns-3 c =
+    let d = c .before .before in
+    let a = d .before .before .args in
+    let near : a .j ≤ data-tracks (shape (a .z)) (set-of (a .s)) = omega (arith, d .data-tracks .ensures .is) in (
+      omega (
+        arith,
+        point-other (shape (a .z)) (a .d) (a .s) (a .t) (a .j) (omega arith) (omega arith) (omega arith),
+        top-pivot (shape (a .z)) (set-of (a .s)) (a .t) (a .j) near,
+      ),
+      omega arith,
+    )
 
 pub point-of-spec : {M : Type 1} → statement M
 point-of-spec =

@@ -47,8 +47,8 @@ returns-4 : tie.Need-returns-4
 returns-4 c =
     let s = c .before .before .before .before .before .before .before .before .before .before .before .before .before .before .before .before .before .before .before .before .before .before .before .pre in
     step-all _ _ _ _ _ _ _ _ _ _ _ _ _ (not-false _ (c .before .before .before .before .before .before .before .before .before .before .before .before .before .before .if1 .left)) (not-false _ (c .before .before .before .before .before .before .before .before .before .before .before .if2 .left)) (not-false _ (c .before .before .before .before .if3 .left))
-        (c .before .before .before .before .before .before .before .before .before .before .before .before .before .before .before .before .before .before .before .extend .ensures) (c .before .before .before .before .before .before .before .before .before .before .before .before .before .before .before .diagonal-zero .ensures) (c .before .before .before .before .before .before .before .before .before .before .before .before .diagonal-zero2 .ensures) (c .before .before .before .before .before .before .before .put-pivot .ensures) (c .before .before .put-pivot2 .ensures)
-        (s .1 .1 .1 .0) (s .1 .1 .1 .1)
+    (c .before .before .before .before .before .before .before .before .before .before .before .before .before .before .before .before .before .before .before .extend .ensures) (c .before .before .before .before .before .before .before .before .before .before .before .before .before .before .before .diagonal-zero .ensures) (c .before .before .before .before .before .before .before .before .before .before .before .before .diagonal-zero2 .ensures) (c .before .before .before .before .before .before .before .put-pivot .ensures) (c .before .before .put-pivot2 .ensures)
+    (s .1 .1 .1 .0) (s .1 .1 .1 .1)
 
 pub step-spec : {M : Type 1} → statement M
 step-spec =

@@ -1,35 +1,36 @@
+-- `upper_word`: the pair's word is the row of the quotient, and the word before is in row 0.
+use native.Mathlib.Omega.{arith}
+use denote.Ref.{now}
 use borrow.Author.Needs.{needs}
+use Rattle.code.specs.Sizes.{shape}
+use Rattle.errors.proofs.Numbers.{u-below}
+use Rattle.errors.proofs.Lows.{upper-next}
 use Rattle.errors.proofs.upper_word.Statement.{statement}
 use Rattle.errors.proofs.upper_word.Tie as tie
-use Rattle.errors.proofs.upper_word.Reads as reads
-use Rattle.errors.proofs.upper_word.Lts as lts
-use Rattle.errors.proofs.gap_of.Reads as gap-of-reads
-use Rattle.errors.proofs.pivot_track.Reads as pivot-track-reads
-use Rattle.words.proofs.quotient_word.Reads as quotient-word-reads
 
--- src/lib.rt:266:17
 mul-prior : tie.Need-mul-prior
 mul-prior c = search needs
 
--- src/lib.rt:266:17
 shared-slice-read-prior : tie.Need-shared-slice-read-prior
 shared-slice-read-prior c = search needs
 
--- src/lib.rt:267:57
 pivot-track-requires : tie.Need-pivot-track-requires
 pivot-track-requires c κs = search needs
 
--- src/lib.rt:267:39
 gap-of-requires : tie.Need-gap-of-requires
-gap-of-requires c κs = ?
+gap-of-requires c κs =
+    let s = c .before .before .before in
+    (omega arith, (omega arith, omega (arith, c .pivot-track .ensures, u-below (shape (s .args .z)) (s .args .p) (s .pre .1 .0) (omega arith))))
 
--- src/lib.rt:267:5
 quotient-word-requires : tie.Need-quotient-word-requires
 quotient-word-requires c κs = search needs
 
--- src/lib.rt:257:1
 returns : tie.Need-returns
-returns c = ?
+returns c =
+    let g = c .before in
+    let s = g .before .before .before .before in
+    upper-next (s .args .z) (s .args .p) (now (s .args .found)) (s .pre .1 .1 .0) (s .args .i) (s .args .pair) _ _ _
+    (omega arith) (g .before .pivot-track .ensures) (g .gap-of .ensures) (c .quotient-word .ensures)
 
 pub upper-word-spec : {M : Type 1} → statement M
 upper-word-spec =
