@@ -1,66 +1,107 @@
--- What comes of a plan's solution.
-use mathlib.Core.Path.{_≡_, sym, ap, subst, _∙_}
-use mathlib.Core.Bool.{Bool, true, false, true≢false}
+-- What the errors that were found say of the good records: of those that agree with the image off flags, by way of the working copy.
+use mathlib.Core.Path.{_≡_, refl, sym, ap, _∙_}
+use mathlib.Core.Logic.{_≢_, by-cases}
+use mathlib.Core.Bool.{Bool, true, false}
 use mathlib.Core.List.{List}
-use Prim.Native.Nat.{ℕ}
-use lib.ListN.{length}
-use Rattle.code.specs.Record.{A, B, Shape}
+use Prim.Native.Nat.{ℕ, suc, _+_, _<_, _≤_, _%_}
+use native.Mathlib.Decide.{decLe}
+use native.Mathlib.Omega.{arith}
+use Rattle.code.specs.Record.{TrackSet, Shape, data-tracks, tracks, track-length, Cells, Good}
 use Rattle.code.specs.Image.{cells}
 use Rattle.code.specs.Flags.{TrackFlags, whole, AgreeOff}
 use Rattle.code.specs.Sizes.{shape}
 use Rattle.code.specs.declared.Sizes.{Sizes}
-use Rattle.code.proofs.Patterns.{in-each}
-use Rattle.syndrome.specs.Syndrome.{Kept}
-use Rattle.solver.specs.declared.Plan.{Plan}
-use Rattle.solver.specs.Solver.{marked, Planned, Fills, plan-of, Solved}
-use Rattle.changes.specs.Changes.{OnlyMarked}
-use Rattle.repair.specs.Steps.{Workable, Worked}
-use Rattle.repair.proofs.Flagging.{beside, frame-agree}
+use Rattle.code.proofs.Cell.{tail-data}
+use Rattle.code.proofs.Linear.{plus, good-same}
+use Rattle.syndrome.specs.Syndrome.{row-of}
+use Rattle.plans.specs.declared.Form.{Form}
+use Rattle.plans.specs.Plans.{room, Fits}
+use Rattle.forms.specs.Streams.{Stream}
+use Rattle.forms.specs.Found.{pivot-sum, Tested}
+use Rattle.forms.proofs.Complete.{complete}
+use Rattle.forms.proofs.Sound.{sound, sound-agree}
+use Rattle.errors.specs.Rows.{cell, diagonals, verticals}
+use Rattle.errors.specs.Steps.{TestedIn, Found}
+use Rattle.errors.proofs.Cells.{cut-in}
+use Rattle.mend.specs.Mend.{Added}
+use Rattle.repair.specs.declared.Needs.{Needs}
+use Rattle.repair.specs.Steps.{need-of, Prepared, errors-in}
 
--- The copy has the image's syndromes.
-pub workable-kept : (z : Sizes) (marks image out syn : List ℕ) → Workable z marks image out syn → Kept z out syn
-workable-kept z marks image out syn given = subst (λ (xs : List ℕ). Kept z xs syn) (sym (given .copy)) (given .kept)
+-- All tests passed.
+module _ (z : Sizes) (p : Form) (words found : List ℕ) (w : Found z (track-length (shape z)) p words found true) where
+  all-tested : TestedIn z (track-length (shape z)) p words found (track-length (shape z))
+  all-tested =
+      let t = w .tested refl in
+      let n = w .all refl in
+      record { diagonals = λ d m l b. t .diagonals d m (omega arith) b; verticals = λ c m l b r. t .verticals c m (omega arith) b r }
 
-module _ (z : Sizes) (marks image out syn : List ℕ) (given : Workable z marks image out syn) (a b : Plan) where
+  pivot-error : (c : TrackSet) (m : ℕ) → m < track-length (shape z) →
+      cell found (2 + row-of c) m ≡ pivot-sum (shape z) (track-length (shape z)) p (diagonals words) (verticals words) (cell found 0) (cell found 1) c m % 2
+  pivot-error c m l = w .pivots refl c m (omega (arith, w .all refl)) ∙ cut-in (track-length (shape z)) _ m l
+
+  -- A pivot that cannot be wrong has no error.
+  pub pivot-right : (c : TrackSet) → room p c ≡ 0 → (m : ℕ) → m < track-length (shape z) → cell found (2 + row-of c) m ≡ 0
+  pivot-right c h m l = pivot-error c m l ∙ all-tested .verticals c m l l (omega arith)
+
+module _ (z : Sizes) (f : TrackFlags) (image out words : List ℕ) (need : Needs) (prepared : Prepared z f image out words need) where
   abbrev sh : Shape
   sh = shape z
 
-  abbrev f : TrackFlags
-  f = marked (shape z) marks
+  -- In the tails of data tracks, and elsewhere.
+  tail-or : {P : Type 0} (s : TrackSet) (t m : ℕ) → (1 ≤ t → t ≤ data-tracks sh s → z .positions ≤ m → P) → ((1 ≤ t → t ≤ data-tracks sh s → z .positions ≤ m → ⊥) → P) → P
+  tail-or s t m here there = by-cases (decLe 1 t)
+      (λ a. by-cases (decLe t (data-tracks sh s))
+      (λ b. by-cases (decLe (z .positions) m) (λ c. here a b c) (λ c. there (λ _ _ h. c h)))
+      (λ b. there (λ _ h _. b h)))
+      (λ a. there (λ h _ _. a h))
 
-  module _ (pa : Planned sh f A a) (pb : Planned sh f B b) (after syn′ : List ℕ) (r : Bool) (solved : Solved z a b out after syn′ r) where
-    -- Only flagged tracks were changed.
-    changed : AgreeOff sh (whole f) (cells sh image) (cells sh after)
-    changed = subst (λ (xs : List ℕ). AgreeOff sh (whole f) (cells sh xs) (cells sh after)) (given .copy)
-        (frame-agree sh f a b _ _ (in-each (λ s. Planned sh f s (plan-of a b s)) pa pb) (solved .frame))
+  good-tail : (y : Cells) → Good sh y → (s : TrackSet) (t m : ℕ) → 1 ≤ t → t ≤ data-tracks sh s → z .positions ≤ m → m < track-length sh → y s t m ≡ 0
+  good-tail y g s t m a b c l = g .tail s t m a (omega (arith, tail-data sh s)) c l
 
-    -- So the output differs from the image in marked tracks alone.
-    pub solved-only : OnlyMarked z marks image after
-    solved-only = record {
-      small = given .kept .small;
-      marks-size = given .marks-size;
-      image-has = given .kept .image .size;
-      out-has = solved .kept .image .size;
-      agree = changed;
+  -- g flags what f does and, in each set, an extra track e - 1.
+  module _ (g : TrackFlags) (e : TrackSet → ℕ) (small : (s : TrackSet) → e s ≤ 9)
+      (less : (s : TrackSet) (t : ℕ) → g s t ≡ false → (f s t ≡ false) × (suc t ≢ e s))
+      (grown : (s : TrackSet) (t : ℕ) → t < tracks sh s → f s t ≡ false → suc t ≢ e s → g s t ≡ false) where
+    -- A good record that agrees with the image agrees with the working copy.
+    to-copy : (y : Cells) → Good sh y → AgreeOff sh (whole g) (cells sh image) y → AgreeOff sh (whole g) (cells sh out) y
+    to-copy y gy a = record {
+      cell = λ s t m l b h. tail-or s t m
+          (λ i j k. prepared .tails s t m i j k b ∙ sym (good-tail y gy s t m i j k b))
+          (λ n. prepared .same s t m l b n ∙ a .cell s t m l b h);
     }
 
-    -- The solver found a good record.
-    pub worked-good : r ≡ true → Worked sh f image after true
-    worked-good h = record {
-      size = solved .kept .image .size;
-      good = λ _. solved .good h;
-      agree = λ _. changed;
-      no-record = λ e. absurd (true≢false e);
-      back = λ e. absurd (true≢false e);
+    -- And the other way, where the extra tracks explain the tails.
+    to-image : ((s : TrackSet) → need-of need s ≢ 0 → need-of need s ≡ e s) → (y : Cells) → AgreeOff sh (whole g) (cells sh out) y → AgreeOff sh (whole g) (cells sh image) y
+    to-image fit y a = record {
+      cell = λ s t m l b h. tail-or s t m
+          (λ i j k. prepared .fits s (e s) (small s) (fit s) t m i (omega arith) (less s t h .0) (less s t h .1) k b
+          ∙ sym (prepared .tails s t m i j k b) ∙ a .cell s t m l b h)
+          (λ n. sym (prepared .same s t m l b n) ∙ a .cell s t m l b h);
     }
 
-    -- It found none, and the output is put back.
-    pub worked-none : r ≡ false → Fills sh f A a → Fills sh f B b → (last : List ℕ) → last ≡ image → Worked sh f image last false
-    worked-none h fa fb last e = record {
-      size = ap length e ∙ given .kept .image .size;
-      good = λ t. absurd (true≢false (sym t));
-      agree = λ t. absurd (true≢false (sym t));
-      no-record = λ _ y g n. solved .none h f y pa pb (beside sh f a b (given .within) fa fb) g
-          (subst (λ (xs : List ℕ). AgreeOff sh (whole f) (cells sh xs) y) (sym (given .copy)) n);
-      back = λ _. e;
-    }
+    -- Where they do not, there is no good record.
+    pub tails-none : (s : TrackSet) → need-of need s ≢ 0 → need-of need s ≢ e s → (y : Cells) → Good sh y → AgreeOff sh (whole g) (cells sh image) y → ⊥
+    tails-none s n d y gy a = prepared .fails s (e s) (small s) n d
+        (λ t m i j h k low b. a .cell s t m (omega arith) b (grown s t (omega arith) h k) ∙ good-tail y gy s t m i (omega arith) low b)
+
+    module _ (p : Form) (fits : Fits sh (track-length sh) g p) (found : List ℕ) where
+      -- A test failed: there is no good record.
+      pub found-none : Found z (track-length sh) p words found false → (y : Cells) → Good sh y → AgreeOff sh (whole g) (cells sh image) y → ⊥
+      found-none w y gy a = w .failed refl (complete sh (cells sh out) y g p (diagonals words) (verticals words) (cell found 4) (cell found 0) (cell found 1) (w .upto)
+          refl gy (to-copy y gy a) (prepared .tails) (prepared .sums-in .sums) fits (w .computed))
+
+      module _ (w : Found z (track-length sh) p words found true) where
+        module _ (after : List ℕ) (added : Added z (errors-in p found) out after) where
+          -- All tests passed: with the errors added the working copy is a good record,
+          pub found-good : Good sh (cells sh after)
+          found-good = good-same sh (plus (cells sh out) (errors-in p found)) (cells sh after) (record { cell = λ s t m l b. sym (added .cell-at s t m l b) })
+              (sound sh (cells sh out) g p (diagonals words) (verticals words) (λ c. cell found (2 + row-of c)) (cell found 0) (cell found 1)
+              refl (prepared .tails) (prepared .sums-in .sums) fits (all-tested z p words found w) (pivot-error z p words found w)
+              (λ h m l r. w .computed .upper-end h m (omega (arith, w .all refl)) r) (λ h m l r. w .computed .lower-end h m (omega (arith, w .all refl)) r))
+
+          -- that agrees with the image.
+          pub found-agree : ((s : TrackSet) → need-of need s ≢ 0 → need-of need s ≡ e s) → AgreeOff sh (whole g) (cells sh image) (cells sh after)
+          found-agree fit = to-image fit (cells sh after) (record {
+            cell = λ s t m l b h. sound-agree sh (cells sh out) g p (diagonals words) (verticals words) (λ c. cell found (2 + row-of c)) (cell found 0) (cell found 1)
+                (λ s t m l b. prepared .copy .bits _) refl fits (all-tested z p words found w) (pivot-error z p words found w) .cell s t m l b h ∙ sym (added .cell-at s t m l b);
+          })

@@ -72,7 +72,7 @@ slice-aggregate-repair-record c = sym (length-take-le _ _ (has-room _ _ _ _ (pas
 repair-record-requires : tie.Need-repair-record-requires
 repair-record-requires c κs =
     let e = c .before .before .before .before .before in
-    (given _ _ _ _ (passes e) _ (c .before .before .before .before .call-marks .ensures) (coded (c .before)), e .before .before .before .check .ensures .1 (e .if1 .left))
+    given _ _ _ _ (passes e) _ (c .before .before .before .before .call-marks .ensures) (coded (c .before))
 
 same-length : tie.Need-same-length
 same-length c = search needs

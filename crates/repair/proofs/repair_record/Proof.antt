@@ -1,9 +1,10 @@
--- `repair_record`: the output is the working copy and `syn` holds its syndromes, so the marked tracks can be worked with.
-use mathlib.Core.Path.{sym, ap, _∙_}
+-- `repair_record`: the form is that of the marked tracks, and the working copy is made good by it, or there is no good record.
+use mathlib.Core.Path.{sym, _∙_}
 use native.Mathlib.Omega.{arith}
-use lib.ListN.{length}
-use lib.Seq.{length-take-le}
-use Rattle.repair.proofs.Records.{given-copy, given-image, given-workable, worked-only, repair-found, repair-none}
+use Rattle.code.specs.Record.{A, B}
+use Rattle.track.proofs.Cells.{copied-all}
+use Rattle.repair.proofs.Blank.{blank-rows}
+use Rattle.repair.proofs.Records.{given-within, made-only, repair-found, repair-none}
 use borrow.Author.Needs.{needs}
 use Rattle.repair.proofs.repair_record.Statement.{statement}
 use Rattle.repair.proofs.repair_record.Tie as tie
@@ -17,58 +18,66 @@ add-l-2 c = search needs
 add-l-3 : tie.Need-add-l-3
 add-l-3 c = search needs
 
-copy-known-requires : tie.Need-copy-known-requires
-copy-known-requires c κs = (search needs, c .before .before .before .before .before .pre .0 .image-is .readings)
+slice-aggregate-prepare : tie.Need-slice-aggregate-prepare
+slice-aggregate-prepare c = search needs
 
-mul-room : tie.Need-mul-room
-mul-room c = search needs
+slice-aggregate-prepare-2 : tie.Need-slice-aggregate-prepare-2
+slice-aggregate-prepare-2 c = search needs
 
-array-borrow-prefix-room : tie.Need-array-borrow-prefix-room
-array-borrow-prefix-room c = search needs
+prepare-requires : tie.Need-prepare-requires
+prepare-requires c κs = let g = c .before .before .before .before .before .before .before .pre in (g .small, (g .image-is, (g .out-has, (omega (arith, g .marks-size, g .small), blank-rows 4))))
 
-slice-aggregate-syn : tie.Need-slice-aggregate-syn
-slice-aggregate-syn c = sym (length-take-le _ _ (omega arith))
+slice-aggregate-find-three : tie.Need-slice-aggregate-find-three
+slice-aggregate-find-three c = search needs
 
-syndromes-requires : tie.Need-syndromes-requires
-syndromes-requires c κs =
-    let p = c .before .before .before .before .before .before .before .before .before .before .before .pre .0 in
-    (p .small, (given-image _ _ _ _ p _ (given-copy _ _ _ _ p _ (c .before .before .before .before .before .copy-known .ensures)), length-take-le _ _ (omega arith)))
+find-three-requires : tie.Need-find-three-requires
+find-three-requires c κs = let g = c .before .before .before .before .before .before .before .before .before .before .before .before .pre in (g .small, (omega arith, (omega (arith, g .marks-size, g .small), given-within _ _ _ _ g .in-set A)))
 
-slice-aggregate-work : tie.Need-slice-aggregate-work
-slice-aggregate-work c = search needs
+slice-aggregate-find-three-2 : tie.Need-slice-aggregate-find-three-2
+slice-aggregate-find-three-2 c = search needs
 
-work-requires : tie.Need-work-requires
-work-requires c κs =
-    let p = c .before .before .before .before .before .before .before .before .before .before .before .before .before .before .before .before .pre .0 in
-    (given-workable _ _ _ _ p _ _ (given-copy _ _ _ _ p _ (c .before .before .before .before .before .before .before .before .before .before .copy-known .ensures)) (c .before .before .before .before .syndromes .ensures), p .image-is .readings)
+find-three-requires-2 : tie.Need-find-three-requires-2
+find-three-requires-2 c κs = let g = c .before .before .before .before .before .before .before .before .before .before .before .before .before .before .pre in (g .small, (omega arith, (omega (arith, g .marks-size, g .small), given-within _ _ _ _ g .in-set B)))
+
+form-of-requires : tie.Need-form-of-requires
+form-of-requires c κs = search needs
+
+slice-aggregate-make-good : tie.Need-slice-aggregate-make-good
+slice-aggregate-make-good c = search needs
+
+make-good-requires : tie.Need-make-good-requires
+make-good-requires c κs =
+    let w = c .before .before .before .before .before .before .before .before .before .before .prepare .ensures in
+    (c .before .before .before .before .before .before .before .before .before .before .before .before .before .before .before .before .before .before .pre .small, (w .copy, (w .sums-in .rows, c .before .before .form-of .ensures .fits _ (given-within _ _ _ _ (c .before .before .before .before .before .before .before .before .before .before .before .before .before .before .before .before .before .before .pre)) (c .before .before .before .before .before .find-three .ensures) (c .before .before .before .find-three2 .ensures) .sized)))
 
 slice-aggregate-answer-of : tie.Need-slice-aggregate-answer-of
-slice-aggregate-answer-of c = search needs
+slice-aggregate-answer-of c = sym (c .before .before .before .before .before .before .before .before .before .before .before .before .before .before .before .before .before .before .before .before .before .before .before .pre .marks-size)
 
 answer-of-requires : tie.Need-answer-of-requires
-answer-of-requires c κs =
-    let p = c .before .before .before .before .before .before .before .before .before .before .before .before .before .before .before .before .before .before .before .before .before .before .before .pre .0 in
-    worked-only _ _ _ _ p _ _ (c .before .before .before .before .before .before .work .ensures) (c .before .before .if1 .taken)
+answer-of-requires c κs = made-only _ _ _ _ (c .before .before .before .before .before .before .before .before .before .before .before .before .before .before .before .before .before .before .before .before .before .before .before .before .pre) _ _ _ (c .before .before .before .before .before .before .before .before .before .before .before .before .before .before .before .before .prepare .ensures) _ (c .before .before .before .before .before .before .before .before .form-of .ensures .fits _ (given-within _ _ _ _ (c .before .before .before .before .before .before .before .before .before .before .before .before .before .before .before .before .before .before .before .before .before .before .before .before .pre)) (c .before .before .before .before .before .before .before .before .before .before .before .find-three .ensures) (c .before .before .before .before .before .before .before .before .before .find-three2 .ensures)) _ _ (c .before .before .before .before .before .make-good .ensures) (c .before .before .if1 .taken)
 
 same-length : tie.Need-same-length
-same-length c = search needs
+same-length c = c .before .before .before .before .before .before .make-good .ensures .size ∙ c .before .before .before .before .before .before .before .before .before .before .before .before .before .before .before .before .before .prepare .ensures .copy .size ∙ sym (c .before .before .before .before .before .before .before .before .before .before .before .before .before .before .before .before .before .before .before .before .before .before .before .before .before .pre .out-has)
 
 returns : tie.Need-returns
-returns c = repair-found _ _ _ _ (c .before .before .before .before .before .before .before .before .before .before .before .before .before .before .before .before .before .before .before .before .before .before .before .before .pre .0) _ _ (c .before .before .before .before .before .before .before .work .ensures) (c .before .before .before .if1 .taken) _ (c .answer-of .ensures)
+returns c = repair-found _ _ _ _ (c .before .before .before .before .before .before .before .before .before .before .before .before .before .before .before .before .before .before .before .before .before .before .before .before .before .pre) _ _ _ (c .before .before .before .before .before .before .before .before .before .before .before .before .before .before .before .before .before .prepare .ensures) _ (c .before .before .before .before .before .before .before .before .before .form-of .ensures .fits _ (given-within _ _ _ _ (c .before .before .before .before .before .before .before .before .before .before .before .before .before .before .before .before .before .before .before .before .before .before .before .before .before .pre)) (c .before .before .before .before .before .before .before .before .before .before .before .before .find-three .ensures) (c .before .before .before .before .before .before .before .before .before .before .find-three2 .ensures)) _ _ (c .before .before .before .before .before .before .make-good .ensures) (c .before .before .before .if1 .taken) _ (c .answer-of .ensures)
 
-put-back-requires : tie.Need-put-back-requires
-put-back-requires c κs = (c .before .before .before .before .before .work .ensures .back (c .before .if1 .left), c .before .before .before .before .before .before .before .before .before .before .before .before .before .before .before .before .before .before .before .before .before .before .pre .1)
+copy-into-requires : tie.Need-copy-into-requires
+copy-into-requires c κs = omega (arith, c .before .before .before .before .make-good .ensures .size, c .before .before .before .before .before .before .before .before .before .before .before .before .before .before .before .prepare .ensures .copy .size, c .before .before .before .before .before .before .before .before .before .before .before .before .before .before .before .before .before .before .before .before .before .before .before .pre .image-is .size)
 
 plain-answer-requires : tie.Need-plain-answer-requires
 plain-answer-requires c κs = search needs
 
 same-length-2 : tie.Need-same-length-2
-same-length-2 c =
-    let p = c .before .before .before .before .before .before .before .before .before .before .before .before .before .before .before .before .before .before .before .before .before .before .before .before .before .before .pre .0 in
-    ap length (c .before .before .before .put-back .ensures) ∙ p .image-is .size ∙ sym (p .out-has)
+same-length-2 c = c .before .before .before .copy-into .ensures .size ∙ c .before .before .before .before .before .before .before .before .make-good .ensures .size ∙ c .before .before .before .before .before .before .before .before .before .before .before .before .before .before .before .before .before .before .before .prepare .ensures .copy .size ∙ sym (c .before .before .before .before .before .before .before .before .before .before .before .before .before .before .before .before .before .before .before .before .before .before .before .before .before .before .before .pre .out-has)
 
 returns-2 : tie.Need-returns-2
-returns-2 c = repair-none _ _ _ _ (c .before .before .before .before .before .before .before .before .before .before .before .before .before .before .before .before .before .before .before .before .before .before .before .before .before .before .pre .0) _ _ (c .before .before .before .before .before .before .before .before .before .work .ensures) (c .before .before .before .before .before .if1 .left) _ (c .before .before .before .put-back .ensures) _ (c .plain-answer .ensures)
+returns-2 c =
+    let g = c .before .before .before .before .before .before .before .before .before .before .before .before .before .before .before .before .before .before .before .before .before .before .before .before .before .before .before .pre in
+    let w = c .before .before .before .before .before .before .before .before .before .before .before .before .before .before .before .before .before .before .before .prepare .ensures in
+    let m = c .before .before .before .before .before .before .before .before .make-good .ensures in
+    repair-none _ _ _ _ g _ _ _ w _ (c .before .before .before .before .before .before .before .before .before .before .before .form-of .ensures .fits _ (given-within _ _ _ _ (c .before .before .before .before .before .before .before .before .before .before .before .before .before .before .before .before .before .before .before .before .before .before .before .before .before .before .before .pre)) (c .before .before .before .before .before .before .before .before .before .before .before .before .before .before .find-three .ensures) (c .before .before .before .before .before .before .before .before .before .before .before .before .find-three2 .ensures)) _ _ m (c .before .before .before .before .before .if1 .left) _
+    (copied-all _ _ _ (c .before .before .before .copy-into .ensures) (g .image-is .size ∙ sym (m .size ∙ w .copy .size))) _ (c .plain-answer .ensures)
 
 pub repair-record-spec : {M : Type 1} → statement M
 repair-record-spec =
@@ -77,18 +86,21 @@ repair-record-spec =
     add-l
     add-l-2
     add-l-3
-    copy-known-requires
-    mul-room
-    array-borrow-prefix-room
-    slice-aggregate-syn
-    syndromes-requires
-    slice-aggregate-work
-    work-requires
+    slice-aggregate-prepare
+    slice-aggregate-prepare-2
+    prepare-requires
+    slice-aggregate-find-three
+    find-three-requires
+    slice-aggregate-find-three-2
+    find-three-requires-2
+    form-of-requires
+    slice-aggregate-make-good
+    make-good-requires
     slice-aggregate-answer-of
     answer-of-requires
     same-length
     returns
-    put-back-requires
+    copy-into-requires
     plain-answer-requires
     same-length-2
     returns-2)

@@ -1,0 +1,74 @@
+-- The working copy with its sums.
+use mathlib.Core.Path.{_≡_, sym, subst, _∙_}
+use mathlib.Core.Logic.{_≢_}
+use mathlib.Core.List.{List}
+use Prim.Native.Nat.{ℕ, suc, _+_, _<_, _≤_}
+use native.Mathlib.Omega.{arith}
+use Rattle.code.specs.Record.{TrackSet, A, B, Shape, data-tracks, tracks, track-length}
+use Rattle.code.specs.Image.{cells}
+use Rattle.code.specs.Flags.{TrackFlags}
+use Rattle.code.specs.Sizes.{shape, Small}
+use Rattle.code.specs.declared.Sizes.{Sizes}
+use Rattle.syndrome.specs.Syndrome.{row-of, Holds}
+use Rattle.forms.specs.Found.{Sums, Tails}
+use Rattle.errors.specs.Rows.{diagonals, verticals}
+use Rattle.mend.specs.Mend.{RowsOf, TailsBut, TailsCleared}
+use Rattle.repair.specs.declared.Needs.{Needs}
+use Rattle.repair.specs.Steps.{SumsIn, need-of, Prepared}
+
+-- Rows of words have the sums that rows of bytes have.
+pub sums-in : (z : Sizes) (out syn words : List ℕ) → Holds (shape z) (cells (shape z) out) syn → RowsOf (track-length (shape z)) 4 syn words → SumsIn z out words
+sums-in z out syn words h w = record {
+  rows = w .rows;
+  sums = record {
+    diagonals = λ d m l. w .cells (row-of d) m (row-small d) l ∙ h .diagonals d m l;
+    verticals = λ c m l. w .cells (2 + row-of c) m (vertical-small c) l ∙ h .verticals c m l;
+  };
+}
+  where
+    row-small : (d : TrackSet) → row-of d < 4
+    row-small A = omega arith
+    row-small B = omega arith
+
+    vertical-small : (c : TrackSet) → 2 + row-of c < 4
+    vertical-small A = omega arith
+    vertical-small B = omega arith
+
+-- The tails of A are cleared, then those of B.
+module _ (z : Sizes) (f : TrackFlags) (image copy mid out words : List ℕ) (a b : ℕ) (small : Small z) (is-copy : copy ≡ image)
+    (first-copy : TailsCleared z A f (suc (data-tracks (shape z) A)) copy mid a) (second : TailsCleared z B f (suc (data-tracks (shape z) B)) mid out b)
+    (sums : SumsIn z out words) where
+  abbrev sh : Shape
+  sh = shape z
+
+  first : TailsCleared z A f (suc (data-tracks (shape z) A)) image mid a
+  first = subst (λ (xs : List ℕ). TailsCleared z A f (suc (data-tracks (shape z) A)) xs mid a) is-copy first-copy
+
+  abbrev need : Needs
+  need = record { a = a; b = b }
+
+  -- Clearing one set leaves the other.
+  still-a : (t m : ℕ) → t < tracks sh A → m < track-length sh → cells sh out A t m ≡ cells sh mid A t m
+  still-a t m l h = second .same A t m l h (λ e. let n : _≡_ {A = ℕ} 0 1 = cc in absurd (omega arith))
+
+  still-b : (t m : ℕ) → t < tracks sh B → m < track-length sh → cells sh mid B t m ≡ cells sh image B t m
+  still-b t m l h = first .same B t m l h (λ e. let n : _≡_ {A = ℕ} 0 1 = cc in absurd (omega arith))
+
+  tails : Tails sh (cells sh out)
+  tails A t m i j k l = still-a t m (omega arith) l ∙ first .zero t m i (omega arith) k l
+  tails B t m i j k l = second .zero t m i (omega arith) k l
+
+  same : (s : TrackSet) (t m : ℕ) → t < tracks sh s → m < track-length sh → (1 ≤ t → t ≤ data-tracks sh s → z .positions ≤ m → ⊥) → cells sh out s t m ≡ cells sh image s t m
+  same A t m l h n = still-a t m l h ∙ first .same A t m l h (λ e i j k. n i (omega arith) k)
+  same B t m l h n = second .same B t m l h (λ e i j k. n i (omega arith) k) ∙ still-b t m l h
+
+  fits : (s : TrackSet) (e : ℕ) → e ≤ 9 → (need-of need s ≢ 0 → need-of need s ≡ e) → TailsBut z s f image (suc (data-tracks sh s)) e
+  fits A e h n = first .fits e h n
+  fits B e h n = λ t m i j u d k l. sym (still-b t m (omega arith) l) ∙ second .fits e h n t m i j u d k l
+
+  fails : (s : TrackSet) (e : ℕ) → e ≤ 9 → need-of need s ≢ 0 → need-of need s ≢ e → TailsBut z s f image (suc (data-tracks sh s)) e → ⊥
+  fails A e h n d w = first .fails e h n d w
+  fails B e h n d w = second .fails e h n d (λ t m i j u g k l. still-b t m (omega arith) l ∙ w t m i j u g k l)
+
+  pub both-cleared : Prepared z f image out words need
+  both-cleared = record { small = small; copy = second .image; sums-in = sums; tails = tails; same = same; fits = fits; fails = fails }
