@@ -10,7 +10,7 @@ use lib.Dec.{eqb}
 use Rattle.code.specs.Record.{TrackSet, A, B, Shape, tracks, track-length}
 use Rattle.code.specs.Image.{track-number, image-size, cells}
 use Rattle.code.specs.Flags.{TrackFlags, whole}
-use Rattle.code.specs.Reach.{pick, table-reach, none, extra, is, Choice, with-extras}
+use Rattle.code.specs.Reach.{pick, none, extra, is, Choice, with-extras}
 use Rattle.code.specs.Calls.{Result, plain, changed-in, changed-extra, mended, Traces}
 use Rattle.code.specs.Sizes.{shape}
 use Rattle.code.specs.declared.Sizes.{Sizes}
@@ -20,19 +20,20 @@ use Rattle.code.proofs.Outputs.{agree-on, not-found}
 use Rattle.code.proofs.Masks.{unchanged-in}
 use Rattle.code.proofs.Named.{none-named, one-named}
 use Rattle.code.proofs.Patterns.{neither}
-use Rattle.code.proofs.Reaches.{Below}
 use Rattle.track.specs.Track.{known}
 use Rattle.track.proofs.Lost.{copy-agree, agree-copy}
-use Rattle.syndrome.specs.Syndrome.{Holds}
 use Rattle.solver.specs.Solver.{marked}
 use Rattle.changes.specs.Changes.{OnlyMarked}
 use Rattle.changes.proofs.Tracks.{changed-number}
-use Rattle.repair.specs.Steps.{Given}
+use Rattle.mend.specs.Mend.{Added}
+use Rattle.repair.specs.declared.Needs.{Needs}
+use Rattle.repair.specs.Steps.{Prepared, errors-in, Given}
 use Rattle.repair.proofs.Flagging.{agree-same}
-use Rattle.repair.proofs.Records.{covered, given-kept}
+use Rattle.repair.proofs.Records.{covered}
 use Rattle.trace.specs.declared.Hit.{Hit}
-use Rattle.trace.specs.Steps.{named-at, choice-at, extra-at, IsChoice, Widened, Fits, Traceable, Searched, names-at, mended-at}
+use Rattle.trace.specs.Steps.{named-at, choice-at, extra-at, IsChoice, Widened, Fits, Searched, names-at, mended-at}
 use Rattle.trace.proofs.Choices.{is-other}
+use Rattle.trace.proofs.Trying.{fitting-fits}
 
 -- ## The extras that tracing names
 
@@ -67,51 +68,42 @@ module _ (z : Sizes) (marks image out : List ℕ) (given : Given z marks image o
   abbrev f : TrackFlags
   f = marked (shape z) marks
 
-  module _ (w : Reach) (below : Below w (table-reach sh f)) where
-    -- The tracer can work with them.
-    pub given-traceable : (copy first : List ℕ) → copy ≡ known image → Holds sh (cells sh copy) first → Traceable z w marks (known image) first
-    given-traceable copy first e h = record {
-      kept = given-kept z marks image out given copy first e h;
-      marks-size = given .marks-size;
-      coded = given .coded;
-      below = below;
-    }
+  -- Flags with extras are more.
+  more : (e : Choice) (s : TrackSet) (t : ℕ) → with-extras f e s t ≡ false → f s t ≡ false
+  more e s t h = neither (f s t) _ h .0
 
-    -- Flags with extras are more.
-    more : (e : Choice) (s : TrackSet) (t : ℕ) → with-extras f e s t ≡ false → f s t ≡ false
-    more e s t h = neither (f s t) _ h .0
+  module _ (w : Reach) (copy rows : List ℕ) (need : Needs) (prepared : Prepared z f (known image) copy rows need) (words : List ℕ) (r : Hit) (done : Searched z w f rows need words r) where
+    abbrev choice : Choice
+    choice = choice-at (r .a) (r .b)
 
-    module _ (after : List ℕ) (r : Hit) (done : Searched z w f (known image) after r) where
-      abbrev choice : Choice
-      choice = choice-at (r .a) (r .b)
-
+    module _ (h : r .found ≡ true) (after : List ℕ) (added : Added z (errors-in (r .form) words) copy after) where
       -- What fits the working copy fits the image.
-      found-fits : r .found ≡ true → Fits sh w f image choice (cells sh after)
-      found-fits h =
-          let n = done .fits h in
+      found-fits : Fits sh w f image choice (cells sh after)
+      found-fits =
+          let n = fitting-fits z w f (known image) copy rows need prepared (r .a) (r .b) (done .is-choice h) (r .form) words (done .fits h) after added in
           record { good = n .good; allowed = n .allowed; agree = agree-on sh (whole (with-extras f choice)) (copy-agree sh (whole (with-extras f choice)) image (covered z marks image out given (with-extras f choice) (more choice))) (n .agree) }
 
       -- Only flagged tracks and extras were changed.
-      pub searched-only : r .found ≡ true → (wide : List ℕ) → Widened sh marks choice wide → OnlyMarked z wide image after
-      searched-only h wide e = record {
+      pub searched-only : (wide : List ℕ) → Widened sh marks choice wide → OnlyMarked z wide image after
+      searched-only wide e = record {
         small = given .small;
         marks-size = omega (arith, e .size, given .marks-size, given .small);
         image-has = given .image-is .size;
-        out-has = done .size;
-        agree = agree-same sh _ _ (λ s t l. sym (e .flags s t l)) _ _ (found-fits h .agree);
+        out-has = added .image .size;
+        agree = agree-same sh _ _ (λ s t l. sym (e .flags s t l)) _ _ (found-fits .agree);
       }
 
       -- Answer 0.
-      pub trace-found : r .found ≡ true → (answer : Result) → answer ≡ mended-at sh image after (r .a) (r .b) → Traces sh w f image out answer after
-      trace-found h answer e =
-          let n = found-fits h in
+      pub trace-found : (answer : Result) → answer ≡ mended-at sh image after (r .a) (r .b) → Traces sh w f image out answer after
+      trace-found answer e =
+          let n = found-fits in
           inl (record {
             good = n .good;
             reached = record { choice = choice; allowed = n .allowed; agree = n .agree };
-            stays = stays-all (image-size sh) out after (given .out-has) (done .size);
+            stays = stays-all (image-size sh) out after (given .out-has) (added .image .size);
             result = e ∙ (λ i. mended sh (cells sh image) (cells sh after) (λ s. fits-names z w f image after (r .a) (r .b) (done .is-choice h) n s i));
           })
 
-      pub trace-none : r .found ≡ false → (last : List ℕ) → last ≡ image → (answer : Result) → answer ≡ plain 7 0 → Traces sh w f image out answer last
-      trace-none h last back answer e = inr (not-found sh image out last back (given .image-is .size) (given .out-has) _
-          (λ y g n. done .no-record h y g (record { choice = n .choice; allowed = n .allowed; agree = agree-copy sh (whole (with-extras f (n .choice))) image (covered z marks image out given (with-extras f (n .choice)) (more (n .choice))) y (n .agree) })) answer e)
+    pub trace-none : r .found ≡ false → (last : List ℕ) → last ≡ image → (answer : Result) → answer ≡ plain 7 0 → Traces sh w f image out answer last
+    trace-none h last back answer e = inr (not-found sh image out last back (given .image-is .size) (given .out-has) _
+        (λ y g n. done .no-record h (known image) copy prepared y g (record { choice = n .choice; allowed = n .allowed; agree = agree-copy sh (whole (with-extras f (n .choice))) image (covered z marks image out given (with-extras f (n .choice)) (more (n .choice))) y (n .agree) })) answer e)

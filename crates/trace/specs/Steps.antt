@@ -7,7 +7,7 @@ use Prim.Native.Nat.{ℕ, zero, suc, _+_, _<_, _≤_}
 use lib.Dec.{eqb}
 use lib.ListN.{length, getD}
 use Rattle.code.specs.Record.{TrackSet, A, B, Shape, tracks, track-length, Cells, Good}
-use Rattle.code.specs.Image.{image-size, cells}
+use Rattle.code.specs.Image.{cells}
 use Rattle.code.specs.Flags.{TrackFlags, whole, AgreeOff}
 use Rattle.code.specs.Reach.{pick, flags-code, table-reach, Extra, none, extra, Choice, Allowed, with-extras, InReach}
 use Rattle.code.specs.Calls.{Result, mended}
@@ -15,10 +15,17 @@ use Rattle.code.specs.Sizes.{shape, Small}
 use Rattle.code.specs.declared.Sizes.{Sizes}
 use Rattle.code.specs.declared.Reach.{Reach}
 use Rattle.code.proofs.Reaches.{Below}
-use Rattle.syndrome.specs.Syndrome.{Kept}
 use Rattle.solver.specs.Solver.{marked}
 use Rattle.changes.specs.Changes.{HasTrack, changed-at}
-use Rattle.repair.specs.Steps.{names}
+use Rattle.plans.specs.declared.Three.{Three}
+use Rattle.plans.specs.declared.Form.{Form}
+use Rattle.plans.specs.Plans as plans
+use Rattle.errors.specs.Rows.{Rows}
+use Rattle.errors.specs.Steps.{Fresh, Found}
+use Rattle.mend.specs.Mend.{StartOf}
+use Rattle.repair.specs.declared.Needs.{Needs}
+use Rattle.repair.specs.Steps.{need-of, Prepared, names}
+use Rattle.trace.specs.declared.Trial.{Trial}
 use Rattle.trace.specs.declared.Hit.{Hit}
 
 -- ## Choices of extras
@@ -67,27 +74,47 @@ pub record Fits (sh : Shape) (w : Reach) (f : TrackFlags) (image : List ℕ) (e 
   pub allowed : Allowed sh w f e
   pub agree : AgreeOff sh (whole (with-extras f e)) (cells sh image) y
 
--- What the tracer works with: an image with its syndromes, marks that have a code, and a reach that allows no more than the table.
-pub record Traceable (z : Sizes) (w : Reach) (marks image first : List ℕ) : Type 0 where
-  pub kept : Kept z image first
+-- The number of a choice's extra in a set.
+abbrev pub extra-in : ℕ → ℕ → TrackSet → ℕ
+extra-in a b A = a
+extra-in a b B = b
+
+-- r says whether an extra explains the tails of a set that were not 0.
+pub record Explains (need e : ℕ) (r : Bool) : Type 0 where
+  pub yes-explained : r ≡ true → need ≢ 0 → need ≡ e
+  pub not-explained : r ≡ false → (need ≢ 0) × (need ≢ e)
+
+-- What the tracer works with: sums, marks that have a code, the marked tracks, and a reach that allows no more than the table.
+pub record Traceable (z : Sizes) (w : Reach) (marks rows : List ℕ) (x y : Three) (start : ℕ) : Type 0 where
+  pub small : Small z
+  pub sums : Rows 4 rows
   pub marks-size : length marks ≡ 18
   pub coded : flags-code (shape z) (marked (shape z) marks) ≢ 0
   pub below : Below w (table-reach (shape z) (marked (shape z) marks))
+  pub in-a : plans.ThreeOf (shape z) (marked (shape z) marks) A x
+  pub in-b : plans.ThreeOf (shape z) (marked (shape z) marks) B y
+  pub started : StartOf (track-length (shape z)) rows start
 
--- One choice is tried. Where it fails the output is the image again.
-pub record Tried (sh : Shape) (w : Reach) (f : TrackFlags) (image : List ℕ) (e : Choice) (after : List ℕ) (r : Bool) : Type 0 where
-  pub size : length after ≡ image-size sh
-  pub fits : r ≡ true → Fits sh w f image e (cells sh after)
-  pub no-fit : r ≡ false → (y : Cells) → Fits sh w f image e y → ⊥
-  pub back : r ≡ false → after ≡ image
+-- A choice fits: errors were found on its tracks and pass all tests, and its extras explain the tails.
+pub record Fitting (z : Sizes) (w : Reach) (f : TrackFlags) (rows : List ℕ) (need : Needs) (a b : ℕ) (p : Form) (words : List ℕ) : Type 0 where
+  pub allowed : Allowed (shape z) w f (choice-at a b)
+  pub form : plans.Fits (shape z) (track-length (shape z)) (with-extras f (choice-at a b)) p
+  pub found : Found z (track-length (shape z)) p rows words true
+  pub explained : (s : TrackSet) → need-of need s ≢ 0 → need-of need s ≡ extra-in a b s
+
+-- One choice is tried. Where it fails no good record is in reach by it, of whatever record these are the sums.
+pub record Tried (z : Sizes) (w : Reach) (f : TrackFlags) (rows : List ℕ) (need : Needs) (a b start : ℕ) (after : List ℕ) (r : Trial) : Type 0 where
+  pub fresh : Fresh after start
+  pub fits : r .fits ≡ true → Fitting z w f rows need a b (r .form) after
+  pub no-fit : r .fits ≡ false → (image out : List ℕ) → Prepared z f image out rows need → (y : Cells) → Fits (shape z) w f image (choice-at a b) y → ⊥
 
 -- All choices are tried, up to one that fits.
-pub record Searched (z : Sizes) (w : Reach) (f : TrackFlags) (image after : List ℕ) (r : Hit) : Type 0 where
-  pub size : length after ≡ image-size (shape z)
+pub record Searched (z : Sizes) (w : Reach) (f : TrackFlags) (rows : List ℕ) (need : Needs) (after : List ℕ) (r : Hit) : Type 0 where
+  pub words : Rows 5 after
   pub is-choice : r .found ≡ true → IsChoice z (r .a) (r .b)
-  pub fits : r .found ≡ true → Fits (shape z) w f image (choice-at (r .a) (r .b)) (cells (shape z) after)
-  pub no-record : r .found ≡ false → (y : Cells) → Good (shape z) y → InReach (shape z) w f (cells (shape z) image) y → ⊥
-  pub back : r .found ≡ false → after ≡ image
+  pub fits : r .found ≡ true → Fitting z w f rows need (r .a) (r .b) (r .form) after
+  pub no-record : r .found ≡ false → (image out : List ℕ) → Prepared z f image out rows need → (y : Cells) → Good (shape z) y →
+      InReach (shape z) w f (cells (shape z) image) y → ⊥
 
 -- ## What is named
 

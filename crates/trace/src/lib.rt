@@ -4,6 +4,9 @@ use code::Extra;
 use code::Reach;
 use code::Sizes;
 use code::plain_answer;
+use plans::Form;
+use plans::Three;
+use repair::Needs;
 ghost use mathlib.Core.Path.{_≡_};
 ghost use Prim.Native.Nat.{_+_, _≤_, min};
 ghost use lib.ListN.{length};
@@ -13,12 +16,11 @@ ghost use Rattle.code.specs.Contracts.{Traced, TracedWithin};
 ghost use Rattle.code.specs.Answers.{extra-of, result-of};
 ghost use Rattle.code.specs.Sizes.{shape};
 ghost use Rattle.code.proofs.Reaches.{Below};
-ghost use Rattle.track.specs.Track.{Readings, known};
-ghost use Rattle.checks.specs.Lost.{LostTold};
 ghost use Rattle.solver.specs.Solver.{marked};
 ghost use Rattle.changes.specs.Changes.{OnlyMarked};
+ghost use Rattle.errors.specs.Steps.{Fresh};
 ghost use Rattle.repair.specs.Steps.{Given};
-ghost use Rattle.trace.specs.Steps.{HasExtra, named-at, extra-at, choice-at, IsChoice, OneMore, Widened, Free, Allows, Traceable, Tried, Searched, mended-at};
+ghost use Rattle.trace.specs.Steps.{HasExtra, named-at, extra-at, choice-at, IsChoice, OneMore, Widened, Free, Allows, Explains, Traceable, Tried, Searched, mended-at};
 
 // ---- What is allowed
 
@@ -51,11 +53,18 @@ fn reach_within(code: u8, ceiling: usize) -> Reach
 
 // ---- Choices of extras
 
+// Whether a choice fits, and the form of its tracks.
+pub struct Trial {
+    pub fits: bool,
+    pub form: Form,
+}
+
 // A choice that fits, where one was found: 0 for no extra, t + 1 for track t.
 pub struct Hit {
     pub found: bool,
     pub a: usize,
     pub b: usize,
+    pub form: Form,
 }
 
 // The marks and that of an extra: 0 for none, t + 1 for track t of the set whose first track has number `first`.
@@ -151,31 +160,51 @@ fn answer_with(z: Sizes, marks: &[u8], image: &[u8], out: &[u8], a: usize, b: us
 
 // ---- Tracing
 
-// Tries one choice of extras, from a copy of the image's syndromes.
+// Does an extra explain the tails that were not 0?
+fn explains(need: usize, e: usize) -> bool
+    ensures { λ r. ⌜ Explains need e r ⌝ }
+{
+    if need == 0 {
+        return true;
+    }
+    need == e
+}
+
+// Tries one choice of extras.
 fn try_choice(
     z: Sizes,
     w: Reach,
     marks: [u8; 18],
-    image: &[u8],
-    out: &mut [u8],
-    first: &[u8],
-    syn: &mut [u8],
+    x: Three,
+    y: Three,
+    need: Needs,
+    rows: &[u64],
+    found: &mut [u64],
+    start: usize,
     a: usize,
     b: usize,
-) -> bool
-    requires { ⌜ Traceable z w marks (known (now image)) (now first) ⌝ }
-    requires { ⌜ now out ≡ known (now image) ⌝ }
-    requires { ⌜ length (now syn) ≡ length (now first) ⌝ }
+    form: Form,
+) -> Trial
+    requires { ⌜ Traceable z w marks (now rows) x y start ⌝ }
+    requires { ⌜ Fresh (now found) start ⌝ }
     requires { ⌜ IsChoice z a b ⌝ }
-    requires { ⌜ Readings (now image) ⌝ }
-    ensures { λ r. ⌜ Tried (shape z) w (marked (shape z) marks) (known (now (image .entry))) (choice-at a b) (now (out .exit)) r ⌝ }
+    ensures { λ r. ⌜ Tried z w (marked (shape z) marks) (now (rows .entry)) need a b start (now (found .exit)) r ⌝ }
 {
     if !allows(z, w, marks, a, b) {
-        return false;
+        return Trial { fits: false, form };
     }
-    let wide = widen(z, marks, a, b);
-    track::copy_into(syn, first);
-    repair::work(z, &wide, image, out, syn)
+    if !explains(need.a, a) {
+        return Trial { fits: false, form };
+    }
+    if !explains(need.b, b) {
+        return Trial { fits: false, form };
+    }
+    let l = z.positions + (z.t1 + z.t2 + 1);
+    let in_a = plans::insert(x, a);
+    let in_b = plans::insert(y, b);
+    let p = plans::form_of(z, l, in_a, in_b);
+    let fits = errors::find(rows, found, z, l, p, start);
+    Trial { fits, form: p }
 }
 
 // Tries the choices one after the other, up to one that fits.
@@ -183,62 +212,65 @@ fn search(
     z: Sizes,
     w: Reach,
     marks: [u8; 18],
-    image: &[u8],
-    out: &mut [u8],
-    first: &[u8],
-    syn: &mut [u8],
+    x: Three,
+    y: Three,
+    need: Needs,
+    rows: &[u64],
+    found: &mut [u64],
+    start: usize,
 ) -> Hit
-    requires { ⌜ Traceable z w marks (known (now image)) (now first) ⌝ }
-    requires { ⌜ now out ≡ known (now image) ⌝ }
-    requires { ⌜ length (now syn) ≡ length (now first) ⌝ }
-    requires { ⌜ Readings (now image) ⌝ }
-    ensures { λ r. ⌜ Searched z w (marked (shape z) marks) (known (now (image .entry))) (now (out .exit)) r ⌝ }
+    requires { ⌜ Traceable z w marks (now rows) x y start ⌝ }
+    requires { ⌜ Fresh (now found) start ⌝ }
+    ensures { λ r. ⌜ Searched z w (marked (shape z) marks) (now (rows .entry)) need (now (found .exit)) r ⌝ }
 {
     let in_a = z.t1 + 2;
     let in_b = z.t2 + 2;
-    let mut found = false;
+    let l = z.positions + (z.t1 + z.t2 + 1);
+    let mut form = plans::form_of(z, l, x, y);
+    let mut fits = false;
     let mut a = 0;
     let mut b = 0;
     'search: while a <= in_a {
         b = 0;
         while b <= in_b {
-            if try_choice(z, w, marks, image, out, first, syn, a, b) {
-                found = true;
+            let tried = try_choice(z, w, marks, x, y, need, rows, found, start, a, b, form);
+            form = tried.form;
+            if tried.fits {
+                fits = true;
                 break 'search;
             }
             b += 1;
         }
         a += 1;
     }
-    Hit { found, a, b }
+    Hit {
+        found: fits,
+        a,
+        b,
+        form,
+    }
 }
 
 // Traces into the output, of the image's size.
-fn trace_record(
-    z: Sizes,
-    w: Reach,
-    marks: [u8; 18],
-    image: &[u8],
-    out: &mut [u8],
-    lost: bool,
-) -> Answer
+fn trace_record(z: Sizes, w: Reach, marks: [u8; 18], image: &[u8], out: &mut [u8]) -> Answer
     requires { ⌜ Given z marks (now image) (now out) ⌝ }
     requires { ⌜ Below w (table-reach (shape z) (marked (shape z) marks)) ⌝ }
-    requires { ⌜ LostTold (now image) lost ⌝ }
     ensures { λ r. ⌜ Traces (shape z) w (marked (shape z) marks) (now (image .entry)) (now (out .entry)) (result-of r) (now (out .exit)) ⌝ }
 {
     let l = z.positions + (z.t1 + z.t2 + 1);
-    track::copy_known(out, image);
-    let mut room = [0u8; 8252];
-    let mut spare = [0u8; 8252];
-    let first = &mut room[..4 * l];
-    let syn = &mut spare[..4 * l];
-    sums::syndromes(out, z, first);
-    let hit = search(z, w, marks, image, out, first, syn);
+    let mut rows = [0u64; 137];
+    let mut found = [0u64; 171];
+    let need = repair::prepare(z, &marks, image, out, &mut rows);
+    let x = plans::find_three(&marks, z, 0);
+    let y = plans::find_three(&marks, z, 1);
+    let start = mend::find_start(&rows, l);
+    let hit = search(z, w, marks, x, y, need, &rows, &mut found, start);
     if !hit.found {
-        repair::put_back(image, out, lost);
+        track::copy_into(out, image);
         return plain_answer(7, 0);
     }
+    let form = hit.form;
+    mend::add_errors(out, z, form, &found);
     let wide = widen(z, marks, hit.a, hit.b);
     answer_with(z, &wide, image, out, hit.a, hit.b)
 }
@@ -272,7 +304,7 @@ pub fn trace_within(blocks: u32, flags: u32, ceiling: u32, image: &[u8], out: &m
         return plain_answer(6, 0);
     }
     let w = reach_within(code, ceiling as usize);
-    trace_record(z, w, marks, image, &mut out[..18 * (8 * n + 15)], seen.lost)
+    trace_record(z, w, marks, image, &mut out[..18 * (8 * n + 15)])
 }
 
 // Tracer: with code 4 in place of 5, which is one extra track in all at the most.

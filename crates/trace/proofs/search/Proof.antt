@@ -1,28 +1,27 @@
--- `search`: the invariants are that no choice before this one fits, and that the output is the working copy.
-use mathlib.Core.Path.{_≡_, refl, sym, ap, _∙_}
+-- `search`: the invariants are that no choice before this one fits.
+use mathlib.Core.Path.{_≡_, refl, sym, _∙_}
 use mathlib.Core.Bool.{false}
 use Prim.Native.Nat.{_+_, _-_, _≤_}
 use native.Mathlib.Omega.{arith}
 use borrow.Author.Needs.{needs}
-use lib.ListN.{length}
-use Rattle.track.specs.Track.{known}
+use Rattle.code.specs.Sizes.{shape}
+use Rattle.solver.specs.Solver.{marked}
 use Rattle.trace.proofs.Searching.{Seeking, seeking-none, seeking-more, seeking-row, seeking-all, searched}
 use Rattle.trace.proofs.search.Statement.{statement}
 use Rattle.trace.proofs.search.Tie as tie
 
 abbrev Inv-loop : tie.InvT-loop
-Inv-loop z code marks image out₀ first syn₀ in-a in-b found₀ a b₀ out syn found b =
-    (b ≤ in-b + 1) × (found ≡ false) × Seeking z code marks (known image) first a b out syn
+Inv-loop z w marks x y need rows found₀ start in-a in-b l form₀ fits₀ a b₀ found form fits b = (b ≤ in-b + 1) × (fits ≡ false) × Seeking z w (marked (shape z) marks) rows need start a b found
 
 abbrev μ-loop : tie.MeasureT-loop
-μ-loop z code marks image out₀ first syn₀ in-a in-b found₀ a b₀ out syn found b = in-b + 1 - b
+μ-loop z w marks x y need rows found₀ start in-a in-b l form₀ fits₀ a b₀ found form fits b = in-b + 1 - b
 
 abbrev Inv-search : tie.InvT-search
-Inv-search z code marks image out₀ first syn₀ in-a in-b found₀ a₀ b₀ out syn found a b =
-    (a ≤ in-a + 1) × (found ≡ false) × Seeking z code marks (known image) first a 0 out syn
+Inv-search z w marks x y need rows found₀ start in-a in-b l form₀ fits₀ a₀ b₀ found form fits a b =
+    (a ≤ in-a + 1) × (fits ≡ false) × Seeking z w (marked (shape z) marks) rows need start a 0 found
 
 abbrev μ-search : tie.MeasureT-search
-μ-search z code marks image out₀ first syn₀ in-a in-b found₀ a₀ b₀ out syn found a b = in-a + 1 - a
+μ-search z w marks x y need rows found₀ start in-a in-b l form₀ fits₀ a₀ b₀ found form fits a b = in-a + 1 - a
 
 add-in-a : tie.Need-add-in-a Inv-loop μ-loop Inv-search μ-search
 add-in-a c = search needs
@@ -30,32 +29,43 @@ add-in-a c = search needs
 add-in-b : tie.Need-add-in-b Inv-loop μ-loop Inv-search μ-search
 add-in-b c = search needs
 
+add-l : tie.Need-add-l Inv-loop μ-loop Inv-search μ-search
+add-l c = search needs
+
+add-l-2 : tie.Need-add-l-2 Inv-loop μ-loop Inv-search μ-search
+add-l-2 c = search needs
+
+add-l-3 : tie.Need-add-l-3 Inv-loop μ-loop Inv-search μ-search
+add-l-3 c = search needs
+
+form-of-requires : tie.Need-form-of-requires Inv-loop μ-loop Inv-search μ-search
+form-of-requires c κs = let s = c .before .before .before .before .before .before .pre .0 in (s .small, (s .in-a .sorted, s .in-b .sorted))
+
 search-holds : tie.Need-search-holds Inv-loop μ-loop Inv-search μ-search
-search-holds c = let s = c .before .before .before .before .before .before in (omega arith, refl, seeking-none _ _ _ _ _ _ _ (s .pre .1 .0) (s .pre .1 .1 .0))
+search-holds c = (omega arith, refl, seeking-none _ _ _ _ _ _ _ (c .before .before .before .before .before .before .before .pre .1))
 
 loop-holds : tie.Need-loop-holds Inv-loop μ-loop Inv-search μ-search
 loop-holds c = let i = c .before .search .inv in (omega arith, i .1, i .2)
 
 try-choice-requires : tie.Need-try-choice-requires Inv-loop μ-loop Inv-search μ-search
 try-choice-requires c κs =
-    let s = c .before .before .before .before .before .before .before .before .before .before .before .before in
-    let w = c .before .before .before .loop .inv .2 in
-    (s .pre .0, (w .copy, (w .room, (record { small = s .pre .0 .kept .small; in-a = omega arith; in-b = omega arith }, s .pre .1 .1 .1))))
+    let s = c .before .before .before .before .before .before .before .before .before .before .before .before .pre .0 in
+    let i = c .before .before .loop .inv in
+    (s, (i .2 .fresh, record { small = s .small; in-a = omega arith; in-b = omega arith }))
 
 add-b : tie.Need-add-b Inv-loop μ-loop Inv-search μ-search
-add-b c = search needs
+add-b c = omega (arith, c .before .before .before .before .before .before .before .before .before .before .before .before .before .before .before .before .before .pre .0 .small)
 
 loop-less : tie.Need-loop-less Inv-loop μ-loop Inv-search μ-search
 loop-less c = search needs
 
 loop-again : tie.Need-loop-again Inv-loop μ-loop Inv-search μ-search
 loop-again c =
-    let t = c .before .before .before .before .before .try-choice in
-    let i = c .before .before .before .before .before .before .before .before .before .loop .inv in
-    (omega arith, i .1, seeking-more _ _ _ _ _ _ _ _ _ (i .2) _ _ _ (c .if1 .left) (t .kept .1 .1 .1 .1 .1 .1 .0) (t .ensures))
+    let i = c .before .before .before .before .before .before .before .loop .inv in
+    (omega arith, i .1, seeking-more _ _ _ _ _ _ _ _ _ (i .2) _ _ (c .if1 .left) (c .before .before .before .before .try-choice .ensures))
 
 add-a : tie.Need-add-a Inv-loop μ-loop Inv-search μ-search
-add-a c = search needs
+add-a c = omega (arith, c .before .before .before .before .before .before .before .before .before .before .before .pre .0 .small)
 
 search-less : tie.Need-search-less Inv-loop μ-loop Inv-search μ-search
 search-less c = search needs
@@ -64,24 +74,18 @@ search-again : tie.Need-search-again Inv-loop μ-loop Inv-search μ-search
 search-again c = let i = c .before .loop .inv in (omega arith, i .1, seeking-row _ _ _ _ _ _ _ _ _ (i .2) (omega arith))
 
 same-length : tie.Need-same-length Inv-loop μ-loop Inv-search μ-search
-same-length c = ap length (c .before .search .inv .2 .copy ∙ sym (c .before .before .before .before .before .before .before .before .pre .1 .0))
-
-same-length-2 : tie.Need-same-length-2 Inv-loop μ-loop Inv-search μ-search
-same-length-2 c = search needs
+same-length c = search needs
 
 returns : tie.Need-returns Inv-loop μ-loop Inv-search μ-search
-returns c = let i = c .before .search .inv in seeking-all _ _ _ _ _ _ _ _ _ (i .2) (c .before .before .before .before .before .before .before .before .pre .0) (omega arith) _ (i .1)
+returns c = let i = c .before .search .inv in seeking-all _ _ _ _ _ _ _ _ _ (i .2) (c .before .before .before .before .before .before .before .before .before .pre .0 .small) (omega arith) _ (i .1)
 
-same-length-3 : tie.Need-same-length-3 Inv-loop μ-loop Inv-search μ-search
-same-length-3 c = let s = c .before .before .before .before .before .before .before .before .before .before .before .before .before .before .before .before .before .before in c .before .before .before .before .before .try-choice .ensures .size ∙ sym (s .pre .0 .kept .image .size) ∙ sym (ap length (s .pre .1 .0))
-
-same-length-4 : tie.Need-same-length-4 Inv-loop μ-loop Inv-search μ-search
-same-length-4 c = search needs
+same-length-2 : tie.Need-same-length-2 Inv-loop μ-loop Inv-search μ-search
+same-length-2 c = c .before .before .before .before .try-choice .ensures .fresh .rows .size ∙ sym (c .before .before .before .before .before .before .before .before .before .before .before .before .before .before .before .before .before .pre .1 .rows .size)
 
 returns-2 : tie.Need-returns-2 Inv-loop μ-loop Inv-search μ-search
 returns-2 c =
-    let s = c .before .before .before .before .before .before .before .before .before .before .before .before .before .before .before .before .before .before in
-    searched _ _ _ _ _ _ _ _ (c .if1 .taken) (record { small = s .pre .0 .kept .small; in-a = omega arith; in-b = omega arith }) (c .before .before .before .before .before .try-choice .ensures)
+    let s = c .before .before .before .before .before .before .before .before .before .before .before .before .before .before .before .before .before .pre .0 in
+    searched _ _ _ _ _ _ _ _ _ _ (c .if1 .taken) (record { small = s .small; in-a = omega arith; in-b = omega arith }) (c .before .before .before .before .try-choice .ensures)
 
 pub search-spec : {M : Type 1} → statement M
 search-spec =
@@ -93,6 +97,10 @@ search-spec =
     μ-search
     add-in-a
     add-in-b
+    add-l
+    add-l-2
+    add-l-3
+    form-of-requires
     search-holds
     loop-holds
     try-choice-requires
@@ -103,8 +111,6 @@ search-spec =
     search-less
     search-again
     same-length
-    same-length-2
     returns
-    same-length-3
-    same-length-4
+    same-length-2
     returns-2)

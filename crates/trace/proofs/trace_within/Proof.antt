@@ -91,7 +91,7 @@ trace-record-requires : tie.Need-trace-record-requires
 trace-record-requires c κs =
     let e = c .before .before .before .before .before .before .before in (
       given _ _ _ _ (passes e) _ (c .before .before .before .before .before .before .call-marks .ensures) (coded (c .before .before)),
-      (both-below _ _ _ (reach-is (c .before)), e .before .before .check .ensures .1 (e .if1 .left)),
+      both-below _ _ _ (reach-is (c .before)),
     )
 
 same-length : tie.Need-same-length
