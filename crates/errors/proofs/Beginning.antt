@@ -1,11 +1,9 @@
 -- Where all sums are 0 there are no errors: the words before the start.
 use mathlib.Core.Path.{_≡_, refl, sym, ap, _∙_}
-use mathlib.Core.Logic.{by-cases, if-pos, if-neg}
 use mathlib.Core.List.{List}
-use Prim.Native.Nat.{ℕ, _+_, _*_, _-_, _<_, _≤_, _%_}
-use native.Mathlib.Decide.{decLt}
+use Prim.Native.Nat.{ℕ, _+_, _*_, _<_, _≤_, _%_}
 use native.Mathlib.Omega.{arith}
-use Rattle.code.specs.Record.{TrackSet, A, B, other, data-tracks, lag, track-length, back}
+use Rattle.code.specs.Record.{TrackSet, A, B, other, track-length}
 use Rattle.code.specs.Sizes.{shape}
 use Rattle.code.specs.declared.Sizes.{Sizes}
 use Rattle.code.proofs.Sums.{back-zero}
@@ -16,15 +14,13 @@ use Rattle.plans.specs.declared.Form.{Form}
 use Rattle.plans.specs.Plans.{pivot}
 use Rattle.forms.specs.Streams.{Stream, cut}
 use Rattle.forms.specs.Forms.{left, met, gap, point}
-use Rattle.forms.specs.Found.{reach, only-in, ahead, across, stride, lower-row, residue, pivot-sum}
-use Rattle.forms.proofs.Lows.{low-zero, Ordered, ordered}
-use Rattle.forms.proofs.Strides.{Strides, reach-fits, strides}
+use Rattle.forms.specs.Found.{reach, only-in, ahead, across, stride, residue, pivot-sum}
+use Rattle.forms.proofs.Shifts.{cut-zero}
+use Rattle.forms.proofs.Lows.{low-zero, Ordered, form-order}
+use Rattle.forms.proofs.Strides.{Strides, reach-fits, form-strides}
 use Rattle.errors.specs.Rows.{cell, diagonals, verticals}
 use Rattle.errors.specs.Steps.{ComputedIn, TestedIn, PivotsIn, Given, Quiet, Fresh}
-
-cut-zero : (end : ℕ) (x : Stream) (m : ℕ) → (m < end → x m ≡ 0) → cut end x m ≡ 0
-unfolding cut
-cut-zero end x m e = by-cases (decLt m end) (λ h. if-pos (decLt m end) h _ _ ∙ e h) (λ h. if-neg (decLt m end) h _ _)
+use Rattle.errors.proofs.Numbers.{data-seven}
 
 module _ (z : Sizes) (end : ℕ) (p : Form) (rows found : List ℕ) (given : Given z end p rows found) (start : ℕ)
     (quiet : Quiet z rows start) (fresh : Fresh found start) where
@@ -67,15 +63,10 @@ module _ (z : Sizes) (end : ℕ) (p : Form) (rows found : List ℕ) (given : Giv
   )
 
   order : Ordered (shape z) (pivot p) (p .below) s (p .v) q (p .u)
-  order = ordered (shape z) (pivot p) (p .below) s (p .v) q (p .u) (given .sized .order)
+  order = form-order (shape z) p (given .sized)
 
   numbers : 2 ≤ p .below → Strides (shape z) s (p .v) (pivot p s) q (p .u) (pivot p q) (reach (shape z) end (p .u))
-  numbers h = strides (shape z) (p .v) (p .u) end (given .end-small) s q (pivot p) (order .v-below (omega arith)) (order .u-below h) (order .rising h)
-      (λ n. given .sized .fewer h (λ e. n (ap set-of e)))
-
-  data-small : (c : TrackSet) → data-tracks (shape z) c ≤ 7
-  data-small A = given .small .t1-small
-  data-small B = given .small .t2-small
+  numbers = form-strides (shape z) end p (given .sized) (given .end-small)
 
   point-small : (d c : TrackSet) (t j : ℕ) → t ≤ 7 → point (shape z) d c t j ≤ 15
   unfolding point
@@ -93,13 +84,13 @@ module _ (z : Sizes) (end : ℕ) (p : Form) (rows found : List ℕ) (given : Giv
     pair = λ h m l b. let n = numbers h in
         let bu = order .u-below h in
         let bv = order .v-below (omega arith) in
-        let a = point-small (other s) q (p .u) (pivot p q) (omega (arith, data-small q)) in
+        let a = point-small (other s) q (p .u) (pivot p q) (omega (arith, data-seven z q (given .small))) in
         omega (
           arith,
           error-zero 4 (omega arith) m l,
           left-zero (omega arith) (other s) (m + ahead (shape z) end p) (omega arith) (omega arith),
           back-zero (left (shape z) end D W p s) (m + ahead (shape z) end p + p .v) (across (shape z) end p)
-              (λ r e. left-zero (omega arith) s r (omega (arith, data-small s)) (omega arith)),
+              (λ r e. left-zero (omega arith) s r (omega (arith, data-seven z s (given .small))) (omega arith)),
           back-zero (cell found 4) m (stride (shape z) end p) (λ r e. error-zero 4 (omega arith) r (omega arith)),
         );
     upper = λ h m l b. omega (
@@ -113,7 +104,7 @@ module _ (z : Sizes) (end : ℕ) (p : Form) (rows found : List ℕ) (given : Giv
         omega (
           arith,
           error-zero 1 (omega arith) m l,
-          left-zero (omega arith) s (m + p .v) (omega (arith, data-small s)) (omega (arith, reach-fits (shape z) (track-length (shape z)) (p .v) (omega arith) (omega (arith, lag-sets (shape z) s)))),
+          left-zero (omega arith) s (m + p .v) (omega (arith, data-seven z s (given .small))) (omega (arith, reach-fits (shape z) (track-length (shape z)) (p .v) (omega arith) (omega (arith, lag-sets (shape z) s)))),
           low-zero (p .below) 0 (met (shape z) end (cell found 0) s q (p .u) (pivot p q) (m + p .v)) (λ k. refl)
               (λ k. let n = numbers k in met-zero (cell found 0) (error-zero 0 (omega arith)) s q (p .u) (pivot p q) (m + p .v) (λ r e. omega arith) (λ r e. omega arith)),
           back-zero (cut end (cell found 1)) m (gap (shape z) s (p .v) (pivot p s)) (λ r e. cut-zero end (cell found 1) r (λ k. error-zero 1 (omega arith) r (omega arith))),

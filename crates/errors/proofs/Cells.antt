@@ -1,27 +1,17 @@
 -- Cells of rows as bits of words.
 use mathlib.Core.Path.{_≡_, refl, sym, ap, _∙_, fun-ext}
-use mathlib.Core.Logic.{_≢_, by-cases, if-pos, if-neg}
+use mathlib.Core.Logic.{_≢_, by-cases}
 use mathlib.Core.List.{List}
-use Prim.Native.Nat.{ℕ, zero, suc, _+_, _*_, _-_, _/_, _%_, _^_, _<_, _≤_}
+use Prim.Native.Nat.{ℕ, zero, suc, _+_, _*_, _/_, _%_, _^_, _<_, _≤_}
 use native.Mathlib.Numerals.{one-add}
 use native.Mathlib.Decide.{decLt}
 use native.Mathlib.Omega.{arith}
 use lib.ListN.{getD, set, length-set}
 use lib.Seq.{getD-set-same, getD-set-other}
 use Rattle.words.specs.Words.{bit, bit-at}
-use Rattle.words.proofs.Bit.{bit-lt, bit-zero, bit-shr, cell-in}
-use Rattle.forms.specs.Streams.{Stream, cut}
+use Rattle.words.proofs.Bit.{bit-zero, bit-shr, cell-in, cell-same}
+use Rattle.forms.proofs.Shifts.{cut-in, cut-out}
 use Rattle.errors.specs.Rows.{cell, Rows, Put}
-
--- ## Cut streams
-
-pub cut-in : (v : ℕ) (x : Stream) (m : ℕ) → m < v → cut v x m ≡ x m
-unfolding cut
-cut-in v x m h = if-pos (decLt m v) h _ _
-
-pub cut-out : (v : ℕ) (x : Stream) (m : ℕ) → v ≤ m → cut v x m ≡ 0
-unfolding cut
-cut-out v x m h = let n : ¬ (m < v) = omega arith in if-neg (decLt m v) n _ _
 
 -- ## Cells
 
@@ -31,21 +21,13 @@ unfolding cell
 cell-at ws r m n h e = cut-in 2112 (λ m. bit-at ws (2176 * r + (64 + m))) m h ∙ ap (bit-at ws) e
 
 -- Past the row there is nothing.
-pub cell-out : (ws : List ℕ) (r m : ℕ) → 2112 ≤ m → cell ws r m ≡ 0
+cell-out : (ws : List ℕ) (r m : ℕ) → 2112 ≤ m → cell ws r m ≡ 0
 unfolding cell
 cell-out ws r m h = cut-out 2112 (λ m. bit-at ws (2176 * r + (64 + m))) m h
 
 -- Cell 64 i + k of row r is bit k of its word i, which is word n of the list.
 pub cell-index : (ws : List ℕ) (r i k m n : ℕ) → i < 33 → k < 64 → 64 * i + k ≡ m → 34 * r + 1 + i ≡ n → cell ws r m ≡ bit (getD ws n 0) k
 cell-index ws r i k m n h l e d = cell-at ws r m (2176 * r + (64 + m)) (omega arith) refl ∙ cell-in ws n k (2176 * r + (64 + m)) l (omega arith)
-
-pub cell-word : (ws : List ℕ) (r i k m : ℕ) → i < 33 → k < 64 → 64 * i + k ≡ m → cell ws r m ≡ bit (getD ws (34 * r + 1 + i) 0) k
-cell-word ws r i k m h l e = cell-index ws r i k m (34 * r + 1 + i) h l e refl
-
-pub cell-lt : (ws : List ℕ) (r m : ℕ) → cell ws r m < 2
-cell-lt ws r m = by-cases (decLt m 2112)
-    (λ h. omega (arith, cell-word ws r (m / 64) (m % 64) m (omega arith) (omega arith) (omega arith), bit-lt (getD ws (34 * r + 1 + m / 64) 0) (m % 64)))
-    (λ h. omega (arith, cell-out ws r m (omega arith)))
 
 -- The word before a row's cells is 0.
 pub lead-bit : (ws : List ℕ) (r k m : ℕ) → getD ws (34 * r) 0 ≡ 0 → k < 64 → 2176 * r + k ≡ m → bit-at ws m ≡ 0
@@ -56,9 +38,9 @@ lead-bit ws r k m z l e = cell-in ws (34 * r) k m l (omega arith) ∙ ap (λ w. 
 -- A cell whose word is not the one that is set.
 cell-other : (ws : List ℕ) (j w r m : ℕ) → (m < 2112 → 34 * r + 1 + m / 64 ≢ j) → cell (set ws j w) r m ≡ cell ws r m
 cell-other ws j w r m d = by-cases (decLt m 2112)
-    (λ h. cell-word (set ws j w) r (m / 64) (m % 64) m (omega arith) (omega arith) (omega arith)
-    ∙ ap (λ v. bit v (m % 64)) (getD-set-other ws j (34 * r + 1 + m / 64) w 0 (d h))
-    ∙ sym (cell-word ws r (m / 64) (m % 64) m (omega arith) (omega arith) (omega arith)))
+    (λ h.
+    let n = d h in
+    cell-at _ r m _ h refl ∙ cell-same (set ws j w) ws (2176 * r + (64 + m)) (getD-set-other ws j _ w 0 (omega arith)) ∙ sym (cell-at ws r m _ h refl))
     (λ h. cell-out (set ws j w) r m (omega arith) ∙ sym (cell-out ws r m (omega arith)))
 
 -- Word i of row `row` is set.
@@ -68,7 +50,7 @@ put-set n ws row i w p l h = record {
     size = length-set ws _ w ∙ p .size;
     lead = λ r g. getD-set-other ws (34 * row + 1 + i) (34 * r) w 0 (omega arith) ∙ p .lead r g;
   };
-  here = λ k g. cell-word _ row i k (64 * i + k) h g refl ∙ ap (λ v. bit v k) (getD-set-same ws (34 * row + 1 + i) w 0 (omega (arith, p .size)));
+  here = λ k g. cell-index _ row i k (64 * i + k) (34 * row + 1 + i) h g refl refl ∙ ap (λ v. bit v k) (getD-set-same ws (34 * row + 1 + i) w 0 (omega (arith, p .size)));
   early = λ m g. cell-other ws (34 * row + 1 + i) w row m (λ b. omega arith);
   there = λ r g d. fun-ext (λ m. cell-other ws (34 * row + 1 + i) w r m (λ b. omega arith));
 }

@@ -12,15 +12,16 @@ use Rattle.code.proofs.OneTrack.{offset, offset-vertical}
 use Rattle.code.proofs.Sums.{back-at, back-early, back-same, back-zero, back-back}
 use Rattle.words.specs.Words.{Window, First}
 use Rattle.words.proofs.Bit.{bit-lt, bit-zero}
+use Rattle.solver.proofs.Sets.{own-row}
 use Rattle.forms.specs.Streams.{Stream, cut}
 use Rattle.forms.specs.Forms.{left, met}
+use Rattle.forms.proofs.Shifts.{cut-in, cut-out}
 use Rattle.syndrome.specs.Syndrome.{set-of}
 use Rattle.plans.specs.declared.Form.{Form}
 use Rattle.plans.specs.Plans.{pivot}
 use Rattle.errors.specs.Rows.{cell, diagonals, verticals, Shown, Late, Charged, Delay}
-use Rattle.errors.proofs.Cells.{cut-in, cut-out, cell-at, lead-bit}
+use Rattle.errors.proofs.Cells.{cell-at, lead-bit}
 use Rattle.errors.proofs.Shown.{shown-xor, shown-back}
-use Rattle.errors.proofs.LowTracks.{row-set}
 
 -- A window has the cells of a row.
 pub shown-row : (ws : List ℕ) (row at w : ℕ) → getD ws (34 * row) 0 ≡ 0 → Window ws (2176 * row + at) w →
@@ -82,7 +83,7 @@ pub left-at : (rows : List ℕ) (sh : Shape) (end : ℕ) (p : Form) (d at x y z 
     Shown (track-length sh) (left sh end (diagonals rows) (verticals rows) p (set-of d)) at (bitXor (bitXor x y) z)
 unfolding left
 left-at rows sh end p d at x y z h f g e =
-    shown-xor _ _ _ at _ _ (shown-xor _ _ _ at _ _ (subst (λ r. Shown (track-length sh) (cell rows r) at x) (sym (row-set d h)) f) g) e
+    shown-xor _ _ _ at _ _ (shown-xor _ _ _ at _ _ (subst (λ r. Shown (track-length sh) (cell rows r) at x) (sym (own-row d h)) f) g) e
 
 -- What the diagonal of set d meets of a pair.
 pub met-at : (found : List ℕ) (sh : Shape) (end row : ℕ) (d s : TrackSet) (t j at r x y : ℕ) → r ≤ at → r ≡ offset sh d s t →

@@ -1,8 +1,6 @@
 pub mod Shown
 pub mod Cells
 pub mod Charging
-pub mod LowTracks
-pub mod Points
 pub mod Numbers
 pub mod Words
 pub mod Lows

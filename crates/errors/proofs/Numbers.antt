@@ -1,88 +1,91 @@
--- The numbers of a form.
-use mathlib.Core.Path.{_≡_, ap}
-use Prim.Native.Nat.{ℕ, zero, suc, _+_, _-_, _<_, _≤_}
+-- The code's numbers: of sets, of delays, of points and gaps, and of a form with two tracks below the pivots.
+use mathlib.Core.Path.{_≡_, refl, sym}
+use mathlib.Core.Logic.{_≢_, ⊎-elim}
+use Prim.Native.Nat.{ℕ, zero, suc, _-_, _<_, _≤_}
 use native.Mathlib.Omega.{arith}
-use Rattle.code.specs.Record.{TrackSet, A, B, Shape, track-length}
+use Rattle.code.specs.Record.{TrackSet, A, B, other, Shape, data-tracks, lag, track-length}
 use Rattle.code.specs.Sizes.{shape, Small}
 use Rattle.code.specs.declared.Sizes.{Sizes}
-use Rattle.code.proofs.OneTrack.{offset}
+use Rattle.code.proofs.Cell.{lag-sets}
+use Rattle.code.proofs.OneTrack.{offset-both}
 use Rattle.syndrome.specs.Syndrome.{set-of}
 use Rattle.plans.specs.declared.Form.{Form}
-use Rattle.plans.specs.Lists.{Falls}
-use Rattle.plans.specs.Plans.{pivot, lows-in, Sized}
-use Rattle.forms.specs.Forms.{Below, point}
+use Rattle.plans.specs.Plans.{pivot, Sized}
+use Rattle.forms.specs.Forms.{gap, top, point}
 use Rattle.forms.specs.Found.{reach, ahead, across, along}
-use Rattle.errors.proofs.Points.{Two, data-seven, set-other, places}
+use Rattle.forms.proofs.Lows.{form-order}
+use Rattle.forms.proofs.Pivots.{point-own, point-across, kinds}
+use Rattle.forms.proofs.Strides.{Strides, form-strides}
+use Rattle.errors.specs.Rows.{Delay, GapOf}
 
--- The tracks below the pivots, in order.
-v-low : (b : ℕ) (s : TrackSet) (v : ℕ) (q : TrackSet) (u j : ℕ) → 1 ≤ b → Falls j (lows-in b s v q u s) → v < j
-v-low zero s v q u j l f = absurd (omega arith)
-v-low (suc zero) A v q u j l f = f .0
-v-low (suc zero) B v q u j l f = f .0
-v-low (suc (suc b)) A v A u j l f = omega arith
-v-low (suc (suc b)) A v B u j l f = f .0
-v-low (suc (suc b)) B v A u j l f = f .0
-v-low (suc (suc b)) B v B u j l f = omega arith
+-- ## Sets
 
-u-low : (b : ℕ) (s : TrackSet) (v : ℕ) (q : TrackSet) (u j : ℕ) → 2 ≤ b → Falls j (lows-in b s v q u q) → u < j
-u-low zero s v q u j l f = absurd (omega arith)
-u-low (suc zero) s v q u j l f = absurd (omega arith)
-u-low (suc (suc b)) A v A u j l f = f .0
-u-low (suc (suc b)) A v B u j l f = f .0
-u-low (suc (suc b)) B v A u j l f = f .0
-u-low (suc (suc b)) B v B u j l f = f .0
+-- Two numbers are two sets.
+pub other-set : (d s : ℕ) → d < 2 → s < 2 → s ≢ d → set-of d ≡ other (set-of s)
+other-set zero zero h l n = absurd (n refl)
+other-set zero (suc s) h l n = refl
+other-set (suc d) zero h l n = refl
+other-set (suc d) (suc s) h l n = absurd (n (omega arith))
 
-v-lower : (b : ℕ) (s : TrackSet) (v u j : ℕ) → 2 ≤ b → Falls j (lows-in b s v s u s) → v < u
-v-lower zero s v u j l f = absurd (omega arith)
-v-lower (suc zero) s v u j l f = absurd (omega arith)
-v-lower (suc (suc b)) A v u j l f = f .1 .0
-v-lower (suc (suc b)) B v u j l f = f .1 .0
+pub data-seven : (z : Sizes) (s : TrackSet) → Small z → data-tracks (shape z) s ≤ 7
+data-seven z A l = l .t1-small
+data-seven z B l = l .t2-small
 
-module _ (sh : Shape) (p : Form) (w : Sized sh p) where
-  -- v is below its pivot.
-  pub v-below : 1 ≤ p .below → Below sh (set-of (p .s)) (p .v) (pivot p (set-of (p .s)))
-  v-below l =
-      let o = w .order (set-of (p .s)) in
-      let h = v-low (p .below) (set-of (p .s)) (p .v) (set-of (p .q)) (p .u) _ l (o .1) in
-      record { order = h; on-diagonals = omega arith }
+-- ## Delays, on the diagonal of the track's own set and on the other one
 
-  -- And so is u, where there are two.
-  pub u-below : 2 ≤ p .below → Below sh (set-of (p .q)) (p .u) (pivot p (set-of (p .q)))
-  u-below l =
-      let o = w .order (set-of (p .q)) in
-      let h = u-low (p .below) (set-of (p .s)) (p .v) (set-of (p .q)) (p .u) _ l (o .1) in
-      record { order = h; on-diagonals = omega arith }
+pub delay-own : (sh : Shape) (s : TrackSet) (t : ℕ) → t ≤ data-tracks sh s → Delay sh s s t t
+delay-own sh s t h = record {
+  near = λ l. omega (arith, offset-both sh s t h .0);
+  small = λ l. omega (arith, lag-sets sh s);
+  far = λ l. absurd (omega arith);
+}
 
-  pub two : 2 ≤ p .below → Two sh (set-of (p .s)) (p .v) (pivot p (set-of (p .s))) (set-of (p .q)) (p .u) (pivot p (set-of (p .q)))
-  two l = record {
-    v-below = v-below (omega arith);
-    u-below = u-below l;
-    together = λ e. (
-      v-lower (p .below) (set-of (p .s)) (p .v) (p .u) _ l (rw e at (w .order (set-of (p .s)) .1)),
-      rw e,
-    );
-    apart = λ n. w .fewer l (λ e. n (ap set-of e));
+pub delay-other : (sh : Shape) (s : TrackSet) (t : ℕ) → t ≤ data-tracks sh s → Delay sh (other s) s t (lag sh - t)
+delay-other sh s t h = record {
+  near = λ l. omega (arith, offset-both sh s t h .1);
+  small = λ l. omega arith;
+  far = λ l. absurd (omega arith);
+}
+
+-- ## Points
+
+pub point-same : (sh : Shape) (d s t j : ℕ) → s ≡ d → t ≡ point sh (set-of d) (set-of s) t j
+point-same sh d s t j e = rw e (sym (point-own sh (set-of d) t j))
+
+-- The point on the other set's diagonal.
+pub point-other : (sh : Shape) (d s t j : ℕ) → d < 2 → s < 2 → s ≢ d → point sh (set-of d) (set-of s) t j ≡ lag sh - top sh (set-of s) t j
+point-other sh d s t j a b n = rw (other-set d s a b n) (point-across sh (set-of s) t j .0)
+
+module _ (sh : Shape) (s : TrackSet) (t j : ℕ) where
+  pub top-pivot : j ≤ data-tracks sh s → top sh s t j ≡ j
+  top-pivot h = ⊎-elim (λ k. k .2) (λ k. absurd (omega arith)) (kinds sh t j s)
+
+  pub top-track : data-tracks sh s < j → top sh s t j ≡ t
+  top-track h = ⊎-elim (λ k. absurd (omega arith)) (λ k. k .2) (kinds sh t j s)
+
+  -- What stands for the gap: a word, where the pivot is not met, and else the difference.
+  pub gap-far : data-tracks sh s < j → GapOf sh (gap sh s t j) 64
+  gap-far h = record {
+    positive = omega arith;
+    near = λ l. absurd (omega arith);
+    far = λ l. ⊎-elim (λ k. absurd (omega arith)) (λ k. omega arith) (kinds sh t j s);
   }
 
--- v's diagonal reads u's pair before the position that it is read for.
-pub u-earlier : (sh : Shape) (end : ℕ) (p : Form) → Sized sh p → end ≤ track-length sh → 2 ≤ p .below →
-    (p .v < offset sh (set-of (p .s)) (set-of (p .q)) (p .u)) × (p .v < offset sh (set-of (p .s)) (set-of (p .q)) (pivot p (set-of (p .q))))
-u-earlier sh end p w h l =
-    let e = places sh end h (set-of (p .s)) (p .v) (pivot p (set-of (p .s))) (set-of (p .q)) (p .u) (pivot p (set-of (p .q))) (two sh p w l) in
-    (e .track-later, e .pivot-later)
+  pub gap-near : t < j → j ≤ data-tracks sh s → data-tracks sh s ≤ 7 → GapOf sh (gap sh s t j) (j - t)
+  gap-near l h small = record {
+    positive = omega arith;
+    near = λ b. ⊎-elim (λ k. omega arith) (λ k. absurd (omega arith)) (kinds sh t j s);
+    far = λ b. absurd (omega arith);
+  }
 
--- The code's numbers of two pairs.
+-- ## Two tracks below the pivots
+
 pub record Numbers (z : Sizes) (end : ℕ) (p : Form) (a b c : ℕ) : Type 0 where
   pub a-is : a ≡ ahead (shape z) end p
   pub b-is : b ≡ across (shape z) end p
   pub c-is : c ≡ along (shape z) end p
-  pub a-small : a ≤ 15
-  pub b-small : b ≤ 15
-  pub c-small : c ≤ 15
   pub v-small : p .v ≤ 7
-  pub positive : a + p .v < b + c
-  pub ahead-in : (m : ℕ) → m < reach (shape z) end (p .u) → m + a < track-length (shape z)
-  pub across-in : (m : ℕ) → m < reach (shape z) end (p .u) → m + a + p .v < track-length (shape z) + b
+  pub met : Strides (shape z) (set-of (p .s)) (p .v) (pivot p (set-of (p .s))) (set-of (p .q)) (p .u) (pivot p (set-of (p .q))) (reach (shape z) end (p .u))
 
 pub numbers : (z : Sizes) (end : ℕ) (p : Form) → Small z → end ≤ track-length (shape z) → Sized (shape z) p → 2 ≤ p .below → (j k a b c : ℕ) →
     j ≡ pivot p (set-of (p .s)) → k ≡ pivot p (set-of (p .q)) →
@@ -90,20 +93,12 @@ pub numbers : (z : Sizes) (end : ℕ) (p : Form) → Small z → end ≤ track-l
     b ≡ point (shape z) (set-of (1 - p .s)) (set-of (p .s)) (p .v) j →
     c ≡ point (shape z) (set-of (p .s)) (set-of (p .q)) (p .u) k → Numbers z end p a b c
 numbers z end p small h w l j k a b c ej ek ea eb ec =
-    let o = set-other (p .s) (w .s-small) in
-    let a-is : a ≡ ahead (shape z) end p = rw (← o, ← ek) ea in
-    let b-is : b ≡ across (shape z) end p = rw (← o, ← ej) eb in
-    let c-is : c ≡ along (shape z) end p = rw (← ek) ec in
-    let e = places (shape z) end h (set-of (p .s)) (p .v) (pivot p (set-of (p .s))) (set-of (p .q)) (p .u) (pivot p (set-of (p .q))) (two (shape z) p w l) in
+    let o = other-set (1 - p .s) (p .s) (omega arith) (w .s-small) (omega arith) in
+    let v = form-order (shape z) p w .v-below (omega arith) in
     record {
-      a-is = a-is;
-      b-is = b-is;
-      c-is = c-is;
-      a-small = omega (arith, e .a-small);
-      b-small = omega (arith, e .b-small);
-      c-small = omega (arith, e .c-small);
-      v-small = omega (arith, v-below (shape z) p w (omega arith), data-seven z (set-of (p .s)) small);
-      positive = omega (arith, e .positive);
-      ahead-in = λ m i. omega (arith, e .ahead-in m i);
-      across-in = λ m i. omega (arith, e .across-in m i);
+      a-is = rw (← o, ← ek) ea;
+      b-is = rw (← o, ← ej) eb;
+      c-is = rw (← ek) ec;
+      v-small = omega (arith, data-seven z (set-of (p .s)) small);
+      met = form-strides (shape z) end p w h l;
     }

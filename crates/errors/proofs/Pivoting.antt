@@ -3,7 +3,7 @@ use mathlib.Core.Path.{_≡_, refl, sym, ap, subst, _∙_}
 use mathlib.Core.Logic.{_≢_, by-cases}
 use mathlib.Core.List.{List}
 use Prim.Native.Nat.{ℕ, zero, suc, _+_, _*_, _-_, _<_, _≤_, _%_, _^_}
-use native.Mathlib.Decide.{decLt, ℕ-discrete}
+use native.Mathlib.Decide.{decLt}
 use native.Mathlib.Omega.{arith}
 use borrow.Author.Tests.{eqb-true, eqb-false}
 use lib.Bits.{bitXor}
@@ -12,35 +12,22 @@ use lib.ListN.{getD}
 use Rattle.code.specs.Record.{TrackSet, Shape, track-length}
 use Rattle.code.specs.Sizes.{shape}
 use Rattle.code.specs.declared.Sizes.{Sizes}
-use Rattle.syndrome.specs.Syndrome.{set-of}
+use Rattle.syndrome.specs.Syndrome.{set-of, row-of}
 use Rattle.plans.specs.declared.Form.{Form}
 use Rattle.plans.specs.Plans.{pivot, room}
 use Rattle.words.specs.Words.{bit, First}
 use Rattle.words.proofs.Bit.{bit-lt, bit-zero, bit-xor}
+use Rattle.solver.proofs.Sets.{own-row}
 use Rattle.forms.specs.Streams.{Stream, cut}
 use Rattle.forms.specs.Forms.{left, met}
 use Rattle.forms.specs.Found.{low-sum, only-in, residue, pivot-sum}
+use Rattle.forms.proofs.Shifts.{cut-in, cut-out}
+use Rattle.forms.proofs.Lows.{low-one, low-two, low-same, low-zero}
 use Rattle.errors.specs.Rows.{cell, diagonals, verticals, Shown, Put}
-use Rattle.errors.specs.Steps.{DiagonalTold, PivotWord, PivotPut, Later}
-use Rattle.errors.proofs.Cells.{cut-in, cut-out, cell-index, same-bits}
-use Rattle.errors.proofs.LowTracks.{row-set}
+use Rattle.errors.specs.Steps.{DiagonalTold, PivotWord, PivotPut}
+use Rattle.errors.proofs.Cells.{cell-index, same-bits}
+use Rattle.errors.proofs.Words.{in-word, put-later}
 use Rattle.errors.proofs.Shown.{shown-xor, shown-same, shown-at}
-
--- ## What counts of two terms
-
-low-none : (k x y : ℕ) → k ≡ 0 → low-sum k x y ≡ 0
-low-none zero x y e = refl
-low-none (suc k) x y e = absurd (omega arith)
-
-low-one : (k x y : ℕ) → k ≡ 1 → low-sum k x y ≡ x
-low-one zero x y e = absurd (omega arith)
-low-one (suc zero) x y e = refl
-low-one (suc (suc k)) x y e = absurd (omega arith)
-
-low-two : (k x y : ℕ) → 2 ≤ k → low-sum k x y ≡ x + y
-low-two zero x y e = absurd (omega arith)
-low-two (suc zero) x y e = absurd (omega arith)
-low-two (suc (suc k)) x y e = refl
 
 -- ## The residue of the diagonal of set d, where D has the diagonals, W the verticals, U and E the errors of u and v
 
@@ -48,7 +35,7 @@ module _ (sh : Shape) (end : ℕ) (p : Form) (D W : TrackSet → Stream) (U E : 
     (whole : Shown (track-length sh) (left sh end D W p d) at w) where
   pub residue-none : p .below ≡ 0 → Shown (track-length sh) (residue sh end p D W U E d) at w
   unfolding residue
-  residue-none e = shown-same _ _ _ at w (λ m h. rw low-none (omega arith)) whole
+  residue-none e = shown-same _ _ _ at w (λ m h. rw e (omega arith)) whole
 
   module _ (j x : ℕ) (is : j ≡ pivot p (set-of (p .s))) (met-lower : Shown (track-length sh) (met sh end E d (set-of (p .s)) (p .v) j) at x) where
     lower : Shown (track-length sh) (λ m. left sh end D W p d m + met sh end E d (set-of (p .s)) (p .v) (pivot p (set-of (p .s))) m) at (bitXor w x)
@@ -56,7 +43,7 @@ module _ (sh : Shape) (end : ℕ) (p : Form) (D W : TrackSet → Stream) (U E : 
 
     pub residue-one : p .below ≡ 1 → Shown (track-length sh) (residue sh end p D W U E d) at (bitXor w x)
     unfolding residue
-    residue-one e = shown-same _ _ _ at _ (λ m h. rw low-one) lower
+    residue-one e = shown-same _ _ _ at _ (λ m h. rw e) lower
 
     pub residue-two : 2 ≤ p .below → (k y : ℕ) → k ≡ pivot p (set-of (p .q)) →
         Shown (track-length sh) (met sh end U d (set-of (p .q)) (p .u) k) at y →
@@ -69,13 +56,13 @@ module _ (sh : Shape) (end : ℕ) (p : Form) (D W : TrackSet → Stream) (U E : 
 
 module _ (n : ℕ) (f : Stream) (i v w : ℕ) (p : Shown n f (64 * i + 64) v) (q : First v (n - 64 * i) w) where
   zero-right : w ≡ 0 → (m : ℕ) → 64 * i ≤ m → m < 64 * (i + 1) → m < n → f m % 2 ≡ 0
-  zero-right e m a b h = omega (
+  zero-right e = in-word i (λ m. m < n → f m % 2 ≡ 0) (λ k l h. omega (
     arith,
-    q .cells (m - 64 * i) (omega arith),
-    shown-at n f (64 * i + 64) v p (m - 64 * i) m (omega arith) (omega arith) h,
-    ap (λ x. bit x (m - 64 * i)) e,
-    bit-zero (m - 64 * i),
-  )
+    q .cells k (omega arith),
+    shown-at n f (64 * i + 64) v p k (64 * i + k) l (omega arith) h,
+    ap (λ x. bit x k) e,
+    bit-zero k,
+  ))
 
   zero-wrong : w < 2 ^ 64 → ((m : ℕ) → 64 * i ≤ m → m < 64 * (i + 1) → m < n → f m % 2 ≡ 0) → w ≡ 0
   zero-wrong s z = same-bits 64 w 0 s (omega arith) (λ k l. by-cases (decLt k (n - 64 * i))
@@ -98,50 +85,10 @@ diagonal-told z end p rows found d i v w n s f e q = let q′ = subst (λ k. Fir
 
 -- ## What is left of the vertical of set c
 
--- What counts of the terms of v and of u alone.
-pub low-v : ℕ → ℕ → ℕ
-low-v zero x = 0
-low-v (suc k) x = x
-
-low-u : ℕ → ℕ → ℕ
-low-u zero y = 0
-low-u (suc zero) y = 0
-low-u (suc (suc k)) y = y
-
-low-split : (k x y : ℕ) → low-sum k x y ≡ low-v k x + low-u k y
-unfolding low-v low-u
-low-split zero x y = refl
-low-split (suc zero) x y = omega arith
-low-split (suc (suc k)) x y = refl
-
-v-on : (k x : ℕ) → 1 ≤ k → low-v k x ≡ x
-unfolding low-v
-v-on zero x h = absurd (omega arith)
-v-on (suc k) x h = refl
-
-v-off : (k x : ℕ) → (1 ≤ k → x ≡ 0) → low-v k x ≡ 0
-unfolding low-v
-v-off zero x h = refl
-v-off (suc k) x h = h (omega arith)
-
-u-on : (k x : ℕ) → 2 ≤ k → low-u k x ≡ x
-unfolding low-u
-u-on zero x h = absurd (omega arith)
-u-on (suc zero) x h = absurd (omega arith)
-u-on (suc (suc k)) x h = refl
-
-u-off : (k x : ℕ) → (2 ≤ k → x ≡ 0) → low-u k x ≡ 0
-unfolding low-u
-u-off zero x h = refl
-u-off (suc zero) x h = refl
-u-off (suc (suc k)) x h = h (omega arith)
-
 -- Set s as set c sees it.
 only-on : (s c x : ℕ) → s ≡ c → only-in (set-of s) (set-of c) x ≡ x
-only-on zero zero x e = refl
-only-on zero (suc c) x e = absurd (omega arith)
-only-on (suc s) zero x e = absurd (omega arith)
-only-on (suc s) (suc c) x e = refl
+only-on zero c x e = rw (← e)
+only-on (suc s) c x e = rw (← e)
 
 only-off : (s c x : ℕ) → s < 2 → c < 2 → s ≢ c → only-in (set-of s) (set-of c) x ≡ 0
 only-off zero zero x h l d = absurd (d refl)
@@ -149,10 +96,17 @@ only-off zero (suc c) x h l d = refl
 only-off (suc s) zero x h l d = refl
 only-off (suc s) (suc c) x h l d = absurd (d (omega arith))
 
+-- What the vertical of set c has of the errors of v and of u.
+abbrev of-v : Form → List ℕ → ℕ → Stream
+of-v p found c m = only-in (set-of (p .s)) (set-of c) (cell found 1 m)
+
+abbrev of-u : Form → List ℕ → ℕ → Stream
+of-u p found c m = only-in (set-of (p .q)) (set-of c) (cell found 0 m)
+
 -- A word has the vertical of set c with v's error taken off.
 pub record Half (p : Form) (rows found : List ℕ) (c i w : ℕ) : Type 0 where
   pub cells : (k : ℕ) → k < 64 →
-      bit w k ≡ (cell rows (2 + c) (64 * i + k) + low-v (p .below) (only-in (set-of (p .s)) (set-of c) (cell found 1 (64 * i + k)))) % 2
+      bit w k ≡ (cell rows (2 + c) (64 * i + k) + low-sum (p .below) (of-v p found c (64 * i + k)) 0) % 2
 
 module _ (z : Sizes) (end : ℕ) (p : Form) (rows found : List ℕ) (c i : ℕ) (small : c < 2) (short : i < 33) where
   -- v is in set c, or it is not.
@@ -163,7 +117,8 @@ module _ (z : Sizes) (end : ℕ) (p : Form) (rows found : List ℕ) (c i : ℕ) 
       bit-xor (getD rows (34 * (2 + c) + 1 + i) 0) (getD found (35 + i) 0) k,
       cell-index rows (2 + c) i k (64 * i + k) (34 * (2 + c) + 1 + i) short l refl refl,
       cell-index found 1 i k (64 * i + k) (35 + i) short l refl (omega arith),
-      v-on (p .below) (only-in (set-of (p .s)) (set-of c) (cell found 1 (64 * i + k))) h,
+      low-one (p .below) (of-v p found c (64 * i + k)) 0 h,
+      low-zero (p .below) 0 0 (λ b. refl) (λ b. refl),
       only-on (p .s) c (cell found 1 (64 * i + k)) e,
     );
   }
@@ -174,7 +129,7 @@ module _ (z : Sizes) (end : ℕ) (p : Form) (rows found : List ℕ) (c i : ℕ) 
       arith,
       cell-index rows (2 + c) i k (64 * i + k) (34 * (2 + c) + 1 + i) short l refl refl,
       bit-lt (getD rows (34 * (2 + c) + 1 + i) 0) k,
-      v-off (p .below) (only-in (set-of (p .s)) (set-of c) (cell found 1 (64 * i + k))) (λ b. only-off (p .s) c _ h small (d b)),
+      low-zero (p .below) (of-v p found c (64 * i + k)) 0 (λ b. only-off (p .s) c _ h small (d b)) (λ b. refl),
     );
   }
 
@@ -183,12 +138,13 @@ module _ (z : Sizes) (end : ℕ) (p : Form) (rows found : List ℕ) (c i : ℕ) 
     pub whole-on : 2 ≤ p .below → p .q ≡ c → PivotWord z end p rows found (set-of c) i (bitXor w (getD found (1 + i) 0))
     unfolding pivot-sum
     whole-on h e = record {
-      cells = λ k l. rw (row-set c small, low-split) (omega (
+      cells = λ k l. rw (own-row c small) (omega (
         arith,
         bit-xor w (getD found (1 + i) 0) k,
         half .cells k l,
         cell-index found 0 i k (64 * i + k) (1 + i) short l refl (omega arith),
-        u-on (p .below) (only-in (set-of (p .q)) (set-of c) (cell found 0 (64 * i + k))) h,
+        low-two (p .below) (of-v p found c (64 * i + k)) (of-u p found c (64 * i + k)) h,
+        low-two (p .below) (of-v p found c (64 * i + k)) 0 h,
         only-on (p .q) c (cell found 0 (64 * i + k)) e,
       ));
     }
@@ -196,10 +152,10 @@ module _ (z : Sizes) (end : ℕ) (p : Form) (rows found : List ℕ) (c i : ℕ) 
     pub whole-off : p .q < 2 → (2 ≤ p .below → p .q ≢ c) → PivotWord z end p rows found (set-of c) i w
     unfolding pivot-sum
     whole-off h d = record {
-      cells = λ k l. rw (row-set c small, low-split) (omega (
+      cells = λ k l. rw (own-row c small) (omega (
         arith,
         half .cells k l,
-        u-off (p .below) (only-in (set-of (p .q)) (set-of c) (cell found 0 (64 * i + k))) (λ b. only-off (p .q) c _ h small (d b)),
+        low-same (p .below) (of-v p found c (64 * i + k)) (of-u p found c (64 * i + k)) (of-v p found c (64 * i + k)) 0 (λ b. refl) (λ b. only-off (p .q) c _ h small (d b)),
       ));
     }
 
@@ -211,24 +167,10 @@ module _ (z : Sizes) (end : ℕ) (p : Form) (rows before after : List ℕ) (c i 
   abbrev f : Stream
   f = pivot-sum (shape z) end p (diagonals rows) (verticals rows) (cell before 0) (cell before 1) (set-of c)
 
-  at : (m : ℕ) → 64 * i ≤ m → m < 64 * (i + 1) → bit v (m - 64 * i) ≡ f m % 2
-  at m a b = word .cells (m - 64 * i) (omega arith) ∙ ap (λ q. f q % 2) (omega arith)
-
-  in-word : (m : ℕ) → 64 * i ≤ m → m < 64 * (i + 1) → m < end → bit w (m - 64 * i) ≡ f m % 2
-  in-word m a b h = first .cells (m - 64 * i) (omega arith) ∙ at m a b
-
-  put-cells : (m : ℕ) → 64 * i ≤ m → m < 64 * (i + 1) → bit w (m - 64 * i) ≡ cut end (λ q. f q % 2) m
-  put-cells m a b = by-cases (decLt m end)
-      (λ h. in-word m a b h ∙ sym (cut-in end _ m h))
-      (λ h. first .none (m - 64 * i) (omega arith) ∙ sym (cut-out end _ m (omega arith)))
-
-  put-later : Later i before after
-  put-later = record {
-    rows = put .rows;
-    early = λ r m g h. by-cases (ℕ-discrete r (2 + c))
-        (λ e. subst (λ r. cell after r m ≡ cell before r m) (sym e) (put .early m h))
-        (λ d. ap (λ s. s m) (put .there r g d));
-  }
+  put-cells : (k : ℕ) → k < 64 → bit w k ≡ cut end (λ q. f q % 2) (64 * i + k)
+  put-cells k g = by-cases (decLt (64 * i + k) end)
+      (λ h. first .cells k (omega arith) ∙ word .cells k g ∙ sym (cut-in end _ (64 * i + k) h))
+      (λ h. first .none k (omega arith) ∙ sym (cut-out end _ (64 * i + k) (omega arith)))
 
   same-word : w < 2 ^ 64 → x < 2 ^ 64 → ((m : ℕ) → 64 * i ≤ m → m < 64 * (i + 1) → m < end → most ≤ m → f m % 2 ≡ 0) → x ≡ w
   same-word s t h = same-bits 64 x w t s (λ k g. by-cases (decLt k n)
@@ -239,9 +181,10 @@ module _ (z : Sizes) (end : ℕ) (p : Form) (rows before after : List ℕ) (c i 
 
   pub pivot-put : w < 2 ^ 64 → x < 2 ^ 64 → PivotPut z end p rows before (set-of c) i after (eqb x w)
   pivot-put s t = record {
-    later = put-later;
-    stays = λ k g d. put .there k g (omega (arith, row-set c small));
-    cells = λ m a b. rw (row-set c small) (ap (cell after (2 + c)) (omega arith) ∙ put .here (m - 64 * i) (omega arith) ∙ put-cells m a b);
-    right = λ e m a b g h. sym (in-word m a b g) ∙ ap (λ y. bit y (m - 64 * i)) (sym (eqb-true x w e)) ∙ kept .none (m - 64 * i) (omega arith);
+    later = put-later before (2 + c) i w after put;
+    stays = λ k g d. put .there k g (omega (arith, own-row c small));
+    cells = in-word i (λ m. cell after (2 + row-of (set-of c)) m ≡ cut end (λ q. f q % 2) m) (λ k g. rw (own-row c small) (put .here k g ∙ put-cells k g));
+    right = λ e. in-word i (λ m. m < end → room p (set-of c) ≤ m → f m % 2 ≡ 0)
+        (λ k g h r. sym (first .cells k (omega arith) ∙ word .cells k g) ∙ ap (λ y. bit y k) (sym (eqb-true x w e)) ∙ kept .none k (omega arith));
     wrong = λ e h. eqb-false x w e (same-word s t (λ m a b g r. h m a b g (omega arith)));
   }

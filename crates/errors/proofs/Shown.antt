@@ -1,15 +1,14 @@
 -- Words that have the cells of a stream.
 use mathlib.Core.Path.{_≡_, sym, ap, _∙_}
-use mathlib.Core.Logic.{by-cases}
-use Prim.Native.Nat.{ℕ, _+_, _-_, _<_, _≤_, _%_}
-use native.Mathlib.Decide.{decLe}
+use Prim.Native.Nat.{ℕ, _+_, _<_, _%_}
 use native.Mathlib.Omega.{arith}
 use lib.Bits.{bitXor}
 use Rattle.code.specs.Record.{back}
-use Rattle.code.proofs.Sums.{back-at, back-early, back-add, back-mod, back-same}
+use Rattle.code.proofs.Sums.{back-at, back-add, back-mod, back-same}
 use Rattle.words.specs.Words.{bit}
 use Rattle.words.proofs.Bit.{bit-xor}
 use Rattle.forms.specs.Streams.{Stream}
+use Rattle.forms.proofs.Shifts.{back-move}
 use Rattle.errors.specs.Rows.{Shown}
 
 -- The sum of two streams.
@@ -30,6 +29,4 @@ shown-at n f at w p k m l e h = p .cells k l (omega arith) ∙ ap (λ v. v % 2) 
 
 -- One cell of a stream that is read c positions back.
 pub shown-back : (n : ℕ) (f : Stream) (at w : ℕ) → Shown n f at w → (k m c : ℕ) → k < 64 → at + k + c ≡ 64 + m → m < n + c → bit w k ≡ back f m c % 2
-shown-back n f at w p k m c l e h = p .cells k l (omega arith) ∙ ap (λ v. v % 2) (by-cases (decLe 64 (at + k))
-    (λ b. back-at f (at + k - 64) 64 (at + k) (omega arith) ∙ sym (back-at f (at + k - 64) c m (omega arith)))
-    (λ b. back-early f (at + k) 64 (omega arith) ∙ sym (back-early f m c (omega arith))))
+shown-back n f at w p k m c l e h = p .cells k l (omega arith) ∙ ap (λ v. v % 2) (back-move f (at + k) 64 m c (omega arith))

@@ -19,9 +19,9 @@ use Rattle.forms.specs.Forms.{left, met, gap, point, pair}
 use Rattle.forms.specs.Found.{Sums, Tails, reach, only-in, ahead, across, along, stride, eliminated-row, lower-row, Computed, residue, pivot-sum, Tested}
 use Rattle.forms.proofs.Shifts.{back-move, back-cut, quotient-same, eliminated}
 use Rattle.forms.proofs.Errors.{tail-clear}
-use Rattle.forms.proofs.Lows.{low-one, low-two, low-same, total-lows, Ordered, ordered}
+use Rattle.forms.proofs.Lows.{low-one, low-two, low-same, total-lows, Ordered, form-order}
 use Rattle.forms.proofs.Pivots.{point-own, gap-positive, both-met, pair-met, met-same, even-three, vertical-sums, pivots}
-use Rattle.forms.proofs.Strides.{Strides, reach-fits, strides}
+use Rattle.forms.proofs.Strides.{Strides, reach-fits, form-strides}
 
 module _ (sh : Shape) (x y : Cells) (f : TrackFlags) (p : Form) (D W : TrackSet → Stream) (closed : vertical-end sh ≡ track-length sh) (gy : Good sh y)
     (agree : AgreeOff sh (whole f) x y) (tails : Tails sh x) (sums : Sums sh x D W) (fits : Fits sh (vertical-end sh) f p) where
@@ -48,11 +48,10 @@ module _ (sh : Shape) (x y : Cells) (f : TrackFlags) (p : Form) (D W : TrackSet 
   flagged c = record { order = fits .sized .order c; agree = λ t m l o b. agree .cell c t m l b (fits .clear c t l o) }
 
   order : Ordered sh (pivot p) (p .below) s (p .v) q (p .u)
-  order = ordered sh (pivot p) (p .below) s (p .v) q (p .u) (fits .sized .order)
+  order = form-order sh p (fits .sized)
 
   numbers : 2 ≤ p .below → Strides sh s (p .v) (pivot p s) q (p .u) (pivot p q) (reach sh end (p .u))
-  numbers h = strides sh (p .v) (p .u) end (vertical-within sh) s q (pivot p) (order .v-below (omega arith)) (order .u-below h) (order .rising h)
-      (λ n. fits .sized .fewer h (λ e. n (ap set-of e)))
+  numbers = form-strides sh end p (fits .sized) (vertical-within sh)
 
   -- A track has no errors past its reach.
   past-reach : (w : ℕ) → track-length sh ≤ w → (c : TrackSet) (t m : ℕ) → t ≤ data-tracks sh c → reach sh w t ≤ m → m < track-length sh → plus x y c t m ≡ 0
@@ -132,11 +131,11 @@ module _ (sh : Shape) (x y : Cells) (f : TrackFlags) (p : Form) (D W : TrackSet 
           back-cut end e-v m g (omega arith),
         )
 
-    -- The diagonal of s at m + v meets u at m at the latest.
+    -- The diagonal of s at m + v meets u before m.
     row-same : (m : ℕ) → m < n → m + p .v < track-length sh → lower-row sh end p D W U m ≡ lower-row sh end p D W e-u m
     row-same m b l = ap (λ k. R s (m + p .v) + k) (low-same (p .below) 0 _ 0 _ (λ h. refl) (λ h.
         let k = numbers h in
-        met-same sh end U e-u s q (p .u) (pivot p q) (m + p .v) (omega arith) (λ o e. upper h o (omega arith) (omega arith)) (λ o e. upper h o (omega arith) (omega arith))))
+        met-same sh end U e-u s q (p .u) (pivot p q) (m + p .v) (λ o e. upper h o (omega arith) (omega arith)) (λ o e. upper h o (omega arith) (omega arith))))
 
     -- What is computed of v is its error.
     lower : 1 ≤ p .below → (m : ℕ) → m < n → m < track-length sh → E m ≡ e-v m
@@ -179,8 +178,8 @@ module _ (sh : Shape) (x y : Cells) (f : TrackFlags) (p : Form) (D W : TrackSet 
     residue-same : (d : TrackSet) (m : ℕ) → m < n → m < track-length sh → residue sh end p D W U E d m ≡ residue sh end p D W e-u e-v d m
     unfolding residue
     residue-same d m b l = ap (λ k. R d m + k) (low-same (p .below) _ _ _ _
-        (λ h. met-same sh end E e-v d s (p .v) (pivot p s) m (omega arith) (λ o e. lower h o (omega arith) (omega arith)) (λ o e. lower h o (omega arith) (omega arith)))
-        (λ h. met-same sh end U e-u d q (p .u) (pivot p q) m (omega arith) (λ o e. upper h o (omega arith) (omega arith)) (λ o e. upper h o (omega arith) (omega arith))))
+        (λ h. met-same sh end E e-v d s (p .v) (pivot p s) m (λ o e. lower h o (omega arith) (omega arith)) (λ o e. lower h o (omega arith) (omega arith)))
+        (λ h. met-same sh end U e-u d q (p .u) (pivot p q) m (λ o e. upper h o (omega arith) (omega arith)) (λ o e. upper h o (omega arith) (omega arith))))
 
     tested : Tested sh end p D W U E n
     tested = record {

@@ -4,8 +4,10 @@ use mathlib.Core.List.{List, [], _∷_}
 use Prim.Native.Nat.{ℕ, zero, suc, _+_, _<_, _≤_}
 use native.Mathlib.Omega.{arith}
 use Rattle.code.specs.Record.{TrackSet, A, B, Shape, tracks}
+use Rattle.syndrome.specs.Syndrome.{set-of}
+use Rattle.plans.specs.declared.Form.{Form}
 use Rattle.plans.specs.Lists.{Falls}
-use Rattle.plans.specs.Plans.{of-set, join, lows-in}
+use Rattle.plans.specs.Plans.{pivot, of-set, join, lows-in, Sized}
 use Rattle.forms.specs.Flagged.{total}
 use Rattle.forms.specs.Forms.{Below}
 use Rattle.forms.specs.Found.{low-sum, only-in}
@@ -73,7 +75,7 @@ pub record Ordered (sh : Shape) (j : TrackSet → ℕ) (k : ℕ) (s : TrackSet) 
   pub u-below : 2 ≤ k → Below sh q u (j q)
   pub rising : 2 ≤ k → q ≡ s → v < u
 
-pub ordered : (sh : Shape) (j : TrackSet → ℕ) (k : ℕ) (s : TrackSet) (v : ℕ) (q : TrackSet) (u : ℕ) →
+ordered : (sh : Shape) (j : TrackSet → ℕ) (k : ℕ) (s : TrackSet) (v : ℕ) (q : TrackSet) (u : ℕ) →
     ((c : TrackSet) → Falls (tracks sh c) (j c ∷ lows-in k s v q u c)) → Ordered sh j k s v q u
 ordered sh j zero s v q u o = record { v-below = λ h. absurd (omega arith); u-below = λ h. absurd (omega arith); rising = λ h. absurd (omega arith) }
 ordered sh j (suc zero) A v q u o = record { v-below = λ h. omega (arith, o A); u-below = λ h. absurd (omega arith); rising = λ h. absurd (omega arith) }
@@ -90,3 +92,7 @@ ordered sh j (suc (suc k)) B v A u o = record {
   rising = λ h e. let z : _≡_ {A = ℕ} 0 1 = cc in absurd (omega arith);
 }
 ordered sh j (suc (suc k)) B v B u o = record { v-below = λ h. omega (arith, o B); u-below = λ h. omega (arith, o B); rising = λ h e. omega (arith, o B) }
+
+-- Those of a form.
+pub form-order : (sh : Shape) (p : Form) → Sized sh p → Ordered sh (pivot p) (p .below) (set-of (p .s)) (p .v) (set-of (p .q)) (p .u)
+form-order sh p sized = ordered sh (pivot p) (p .below) (set-of (p .s)) (p .v) (set-of (p .q)) (p .u) (sized .order)

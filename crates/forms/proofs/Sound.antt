@@ -34,7 +34,7 @@ use Rattle.forms.specs.Streams.{Stream, cut}
 use Rattle.forms.specs.Forms.{left, met}
 use Rattle.forms.specs.Found.{Sums, Tails, reach, low-sum, only-in, residue, pivot-sum, Tested, errors}
 use Rattle.forms.proofs.Shifts.{back-cut}
-use Rattle.forms.proofs.Lows.{low-same, low-zero, low-add, low-sets, Ordered, ordered}
+use Rattle.forms.proofs.Lows.{low-same, low-zero, low-add, low-sets, Ordered, form-order}
 
 -- ## Sums of the tracks below the pivots
 
@@ -154,7 +154,7 @@ module _ (sh : Shape) (f : TrackFlags) (p : Form) (D W P : TrackSet → Stream) 
   quiet c m b r = pivots-are c m b ∙ tested .verticals c m b (omega arith) r
 
   order : Ordered sh (pivot p) (p .below) (set-of (p .s)) (p .v) (set-of (p .q)) (p .u)
-  order = ordered sh (pivot p) (p .below) (set-of (p .s)) (p .v) (set-of (p .q)) (p .u) (fits .sized .order)
+  order = form-order sh p (fits .sized)
 
   in-set : (c : TrackSet) → pivot p c < tracks sh c
   in-set c = fits .sized .order c .0

@@ -1,5 +1,5 @@
 -- Two tracks below the pivots: where the diagonals meet their pairs.
-use mathlib.Core.Path.{_≡_, refl}
+use mathlib.Core.Path.{_≡_, refl, ap}
 use mathlib.Core.Logic.{_≢_, ⊎-elim, by-cases}
 use Prim.Native.Nat.{ℕ, zero, suc, _+_, _-_, _<_, _≤_}
 use native.Mathlib.Decide.{decLe}
@@ -7,32 +7,37 @@ use native.Mathlib.Omega.{arith}
 use Rattle.code.specs.Record.{TrackSet, A, B, other, Shape, data-tracks, lag, track-length}
 use Rattle.code.proofs.Cell.{lag-sets}
 use Rattle.code.proofs.OneTrack.{offset, offset-vertical, offset-both}
+use Rattle.syndrome.specs.Syndrome.{set-of}
+use Rattle.plans.specs.declared.Form.{Form}
+use Rattle.plans.specs.Plans.{pivot, Sized}
 use Rattle.forms.specs.Forms.{Below, top, point}
 use Rattle.forms.specs.Found.{reach}
+use Rattle.forms.proofs.Lows.{form-order}
 use Rattle.forms.proofs.Pivots.{point-own, point-across, kinds, top-within}
 
 pub reach-fits : (sh : Shape) (w t : ℕ) → w ≤ track-length sh → t ≤ lag sh → reach sh w t + t ≤ track-length sh
 reach-fits sh w zero h l = omega arith
 reach-fits sh w (suc t) h l = omega arith
 
-reach-data : (sh : Shape) (w t : ℕ) → 1 ≤ t → reach sh w t ≡ sh .positions
+-- A data track reaches to the tail.
+pub reach-data : (sh : Shape) (w t : ℕ) → 1 ≤ t → reach sh w t ≡ sh .positions
 reach-data sh w zero h = absurd (omega arith)
 reach-data sh w (suc t) h = refl
 
 top-rises : (sh : Shape) (s : TrackSet) (t u j : ℕ) → Below sh s t j → Below sh s u j → t < u → top sh s t j ≤ top sh s u j
 top-rises sh s t u j w w′ l = ⊎-elim
-    (λ k. ⊎-elim (λ h. omega arith) (λ h. omega arith) (kinds sh u j s w′))
+    (λ k. ⊎-elim (λ h. omega arith) (λ h. omega arith) (kinds sh u j s))
     (λ k. omega (arith, top-within sh u j s w′))
-    (kinds sh t j s w)
+    (kinds sh t j s)
 
 -- The numbers of a form with v in s and u in q, u being wrong before r: with v's pair eliminated, u's counts again a stride later, both
--- diagonals being within the record; and the diagonal of s at m + v meets u and its pivot no later than at m.
+-- diagonals being within the record; and the diagonal of s at m + v meets u and its pivot before m.
 pub record Strides (sh : Shape) (s : TrackSet) (v j : ℕ) (q : TrackSet) (u i r : ℕ) : Type 0 where
   pub later : point sh (other s) q u i + v < point sh (other s) s v j + point sh s q u i
   pub ahead-fits : r + point sh (other s) q u i ≤ track-length sh
   pub across-fits : r + point sh (other s) q u i + v ≤ track-length sh + point sh (other s) s v j
-  pub track-met : v ≤ offset sh s q u
-  pub pivot-met : v ≤ offset sh s q i
+  pub track-met : v < offset sh s q u
+  pub pivot-met : v < offset sh s q i
 
 module _ (sh : Shape) (v u w : ℕ) (within : w ≤ track-length sh) where
   same-set : (s : TrackSet) (j : ℕ) → Below sh s v j → Below sh s u j → v < u → Strides sh s v j s u j (reach sh w u)
@@ -76,7 +81,7 @@ module _ (sh : Shape) (v u w : ℕ) (within : w ≤ track-length sh) where
             (λ k. omega (arith, offset-vertical sh s (other s) i (omega arith)));
       }
 
-  pub strides : (s q : TrackSet) (j : TrackSet → ℕ) → Below sh s v (j s) → Below sh q u (j q) → (q ≡ s → v < u) → (q ≢ s → data-tracks sh s ≤ data-tracks sh q) →
+  strides : (s q : TrackSet) (j : TrackSet → ℕ) → Below sh s v (j s) → Below sh q u (j q) → (q ≡ s → v < u) → (q ≢ s → data-tracks sh s ≤ data-tracks sh q) →
       Strides sh s v (j s) q u (j q) (reach sh w u)
   strides A A j bv bu rising fewer = same-set A (j A) bv bu (rising refl)
   strides A B j bv bu rising fewer = two-sets A (j A) (j B) bv bu (fewer (λ e. let z : _≡_ {A = ℕ} 0 1 = cc in omega arith))
@@ -84,3 +89,11 @@ module _ (sh : Shape) (v u w : ℕ) (within : w ≤ track-length sh) where
   strides B A j bv bu rising fewer = two-sets B (j B) (j A) bv bu (fewer (λ e. let z : _≡_ {A = ℕ} 0 1 = cc in omega arith))
       (offset-both sh A u (bu .on-diagonals) .1) (λ k. offset-both sh A (j A) k .1)
   strides B B j bv bu rising fewer = same-set B (j B) bv bu (rising refl)
+
+-- Those of a form.
+pub form-strides : (sh : Shape) (end : ℕ) (p : Form) → Sized sh p → end ≤ track-length sh → 2 ≤ p .below →
+    Strides sh (set-of (p .s)) (p .v) (pivot p (set-of (p .s))) (set-of (p .q)) (p .u) (pivot p (set-of (p .q))) (reach sh end (p .u))
+form-strides sh end p sized within h =
+    let o = form-order sh p sized in
+    strides sh (p .v) (p .u) end within (set-of (p .s)) (set-of (p .q)) (pivot p) (o .v-below (omega arith)) (o .u-below h) (o .rising h)
+    (λ n. sized .fewer h (λ e. n (ap set-of e)))

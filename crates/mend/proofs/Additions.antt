@@ -26,7 +26,7 @@ use Rattle.plans.specs.declared.Form.{Form}
 use Rattle.plans.specs.Plans.{pivot, room, Sized}
 use Rattle.forms.specs.Streams.{Stream}
 use Rattle.forms.specs.Found.{low-sum, errors}
-use Rattle.forms.proofs.Lows.{low-one, low-two, low-same, low-zero, Ordered, ordered}
+use Rattle.forms.proofs.Lows.{low-one, low-two, low-same, low-zero, Ordered, form-order}
 use Rattle.errors.specs.Rows.{cell, Rows}
 use Rattle.mend.specs.Mend.{RowAdded, Added}
 use Rattle.mend.proofs.WordRows.{cell-word}
@@ -129,7 +129,7 @@ pub lower-tracks : (z : Sizes) (p : Form) → Sized (shape z) p →
 lower-tracks z p o = (λ h. omega (arith, w .v-below h .on-diagonals), λ h. omega (arith, w .u-below h .on-diagonals))
   where
     w : Ordered (shape z) (pivot p) (p .below) (set-of (p .s)) (p .v) (set-of (p .q)) (p .u)
-    w = ordered (shape z) (pivot p) (p .below) (set-of (p .s)) (p .v) (set-of (p .q)) (p .u) (o .order)
+    w = form-order (shape z) p o
 
 -- A pivot's error, the lower ones' and what counts of these.
 abbrev pub pivot-error : Form → List ℕ → TrackSet → Cells

@@ -1,6 +1,6 @@
 -- Rows of cells in words: their cells are bits of words, they are loaded, and their first words are 0.
 use mathlib.Core.Path.{_≡_, refl, sym, ap, _∙_, fun-ext}
-use mathlib.Core.Logic.{by-cases, if-pos, if-neg}
+use mathlib.Core.Logic.{by-cases}
 use mathlib.Core.List.{List}
 use Prim.Native.Nat.{ℕ, zero, suc, _+_, _*_, _/_, _%_, _<_, _≤_}
 use native.Mathlib.Decide.{decLt, ℕ-discrete}
@@ -8,25 +8,23 @@ use native.Mathlib.Omega.{arith}
 use lib.Bits.{bitOr, or-add-and, xor-add-and}
 use lib.ListN.{length, getD, set, length-set}
 use lib.Seq.{getD-set-same, getD-set-other}
-use Rattle.forms.specs.Streams.{cut}
-use Rattle.words.specs.Words.{bit}
-use Rattle.words.proofs.Bit.{bit-zero, cell-in}
+use Rattle.words.specs.Words.{bit, bit-at}
+use Rattle.words.proofs.Bit.{bit-zero}
+use Rattle.forms.proofs.Shifts.{cut-out}
 use Rattle.track.proofs.Rows.{row-end, part, part-length, part-row}
 use Rattle.errors.specs.Rows.{cell, Rows}
+use Rattle.errors.proofs.Cells.{cell-index}
 use Rattle.mend.specs.Mend.{RowLoaded, RowsOf, StartOf}
 
 -- ## Cells
 
 -- A cell of a row is a bit of one of its words; past them it is 0.
 pub cell-word : (ws : List ℕ) (r i k m : ℕ) → i < 33 → k < 64 → 64 * i + k ≡ m → cell ws r m ≡ bit (getD ws (34 * r + 1 + i) 0) k
-unfolding cell cut
-cell-word ws r i k m h b e =
-    let n : m < 2112 = omega arith in
-    if-pos (decLt m 2112) n _ _ ∙ cell-in ws (34 * r + 1 + i) k (2176 * r + (64 + m)) b (omega arith)
+cell-word ws r i k m h b e = cell-index ws r i k m (34 * r + 1 + i) h b e refl
 
-cell-past : (ws : List ℕ) (r m : ℕ) → 2112 ≤ m → cell ws r m ≡ 0
-unfolding cell cut
-cell-past ws r m h = let n : ¬ (m < 2112) = omega arith in if-neg (decLt m 2112) n _ _
+pub cell-past : (ws : List ℕ) (r m : ℕ) → 2112 ≤ m → cell ws r m ≡ 0
+unfolding cell
+cell-past ws r m h = cut-out 2112 (λ n. bit-at ws (2176 * r + (64 + n))) m h
 
 -- Rows with the same words have the same cells.
 pub row-same : (xs ys : List ℕ) (q : ℕ) → ((i : ℕ) → i < 33 → getD xs (34 * q + 1 + i) 0 ≡ getD ys (34 * q + 1 + i) 0) → cell xs q ≡ cell ys q

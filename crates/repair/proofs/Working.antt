@@ -22,7 +22,7 @@ use Rattle.forms.proofs.Complete.{complete}
 use Rattle.forms.proofs.Sound.{sound, sound-agree}
 use Rattle.errors.specs.Rows.{cell, diagonals, verticals}
 use Rattle.errors.specs.Steps.{TestedIn, Found}
-use Rattle.errors.proofs.Cells.{cut-in}
+use Rattle.forms.proofs.Shifts.{cut-in}
 use Rattle.mend.specs.Mend.{Added}
 use Rattle.repair.specs.declared.Needs.{Needs}
 use Rattle.repair.specs.Steps.{need-of, Prepared, errors-in}

@@ -7,7 +7,7 @@ use Rattle.code.specs.Record.{lag}
 use Rattle.code.specs.Sizes.{shape}
 use Rattle.syndrome.specs.Syndrome.{set-of}
 use Rattle.errors.specs.Rows.{Delay}
-use Rattle.errors.proofs.LowTracks.{other-set, delay-own, delay-other}
+use Rattle.errors.proofs.Numbers.{other-set, delay-own, delay-other}
 use Rattle.errors.proofs.delay.Statement.{statement}
 use Rattle.errors.proofs.delay.Tie as tie
 

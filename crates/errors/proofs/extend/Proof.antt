@@ -6,7 +6,8 @@ use native.Mathlib.Omega.{arith}
 use denote.Ref.{now}
 use borrow.Author.Needs.{needs}
 use Rattle.errors.specs.Steps.{Later, UpperPut}
-use Rattle.errors.proofs.Lows.{later-same, extended, extended-none}
+use Rattle.errors.proofs.Words.{later-same, kept-given}
+use Rattle.errors.proofs.Lows.{extended, extended-none}
 use Rattle.errors.proofs.extend.Statement.{statement}
 use Rattle.errors.proofs.extend.Tie as tie
 
@@ -23,15 +24,14 @@ uppers c =
     let a = s .args in
     ⊎-elim
     (λ w. rw (w .5) (w .2 .ensures .later, λ two. w .2 .ensures))
-    (λ w. rw (w .1) (later-same (a .z) (a .end) (a .p) (now (a .rows)) (now (a .found)) (a .i) (s .pre .0 .errors), λ two. absurd (omega arith)))
+    (λ w. rw (w .1) (later-same (a .i) (now (a .found)) (s .pre .0 .errors), λ two. absurd (omega arith)))
     (c .if1 .came)
 
 put-lower-requires : tie.Need-put-lower-requires
 put-lower-requires c κs =
     let j = c .before .before .before in
     let s = j .before .before .before .before in
-    let g = s .pre .0 in
-    (record { small = g .small; end-small = g .end-small; sized = g .sized; sums = g .sums; errors = uppers j .0 .rows }, (omega arith, omega arith))
+    (kept-given _ _ _ _ _ _ (s .pre .0) (uppers j .0 .rows), (omega arith, omega arith))
 
 same-length : tie.Need-same-length
 same-length c = search needs

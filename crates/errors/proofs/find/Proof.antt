@@ -1,9 +1,9 @@
 -- `find`: before each word the errors of the words before it are computed and their tests are passed.
-use Prim.Native.Nat.{_-_, _*_}
+use Prim.Native.Nat.{_-_}
 use native.Mathlib.Omega.{arith}
 use borrow.Author.Needs.{needs}
 use borrow.Author.Tests.{not-true, not-false}
-use Rattle.errors.proofs.Stepping.{kept-given}
+use Rattle.errors.proofs.Words.{kept-given}
 use Rattle.errors.proofs.Beginning.{start-computed, start-tested, start-pivots}
 use Rattle.errors.proofs.Finding.{Finding, fresh-later, find-more, find-failed, find-all}
 use Rattle.errors.proofs.find.Statement.{statement}

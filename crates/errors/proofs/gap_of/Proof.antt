@@ -3,7 +3,7 @@ use native.Mathlib.Omega.{arith}
 use borrow.Author.Needs.{needs}
 use Rattle.code.specs.Sizes.{shape}
 use Rattle.syndrome.specs.Syndrome.{set-of}
-use Rattle.errors.proofs.Points.{data-seven, gap-far, gap-near}
+use Rattle.errors.proofs.Numbers.{data-seven, gap-far, gap-near}
 use Rattle.errors.proofs.gap_of.Statement.{statement}
 use Rattle.errors.proofs.gap_of.Tie as tie
 

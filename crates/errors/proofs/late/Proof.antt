@@ -4,8 +4,8 @@ use native.Mathlib.Omega.{arith}
 use borrow.Author.Needs.{needs}
 use denote.Ref.{now}
 use Rattle.forms.specs.Streams.{cut}
+use Rattle.forms.proofs.Shifts.{cut-out}
 use Rattle.errors.specs.Rows.{cell}
-use Rattle.errors.proofs.Cells.{cut-out}
 use Rattle.errors.proofs.Charging.{shown-none, shown-first, shown-later}
 use Rattle.errors.proofs.late.Statement.{statement}
 use Rattle.errors.proofs.late.Tie as tie

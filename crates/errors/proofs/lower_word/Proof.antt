@@ -6,12 +6,13 @@ use denote.Ref.{now}
 use borrow.Author.Needs.{needs}
 use Rattle.code.specs.Record.{track-length}
 use Rattle.code.specs.Sizes.{shape}
+use Rattle.code.proofs.Cell.{lag-sets}
 use Rattle.syndrome.specs.Syndrome.{set-of}
 use Rattle.plans.specs.Plans.{pivot}
 use Rattle.forms.specs.Forms.{Below}
 use Rattle.errors.specs.Rows.{Shown}
-use Rattle.errors.proofs.Points.{data-seven, data-small}
-use Rattle.errors.proofs.Numbers.{u-below, v-below}
+use Rattle.forms.proofs.Lows.{form-order}
+use Rattle.errors.proofs.Numbers.{data-seven}
 use Rattle.errors.proofs.Lows.{lower-left, lower-one, lower-two, lower-next}
 use Rattle.errors.proofs.lower_word.Statement.{statement}
 use Rattle.errors.proofs.lower_word.Tie as tie
@@ -19,7 +20,7 @@ use Rattle.errors.proofs.lower_word.Tie as tie
 -- v is a track of the diagonals.
 known : (s : tie.Start) → Below (shape (s .args .z)) (set-of (s .args .p .s)) (s .args .p .v) (pivot (s .args .p) (set-of (s .args .p .s))) × (s .args .p .v ≤ 7)
 known s =
-    let b = v-below (shape (s .args .z)) (s .args .p) (s .pre .0 .sized) (omega arith) in
+    let b = form-order (shape (s .args .z)) (s .args .p) (s .pre .0 .sized) .v-below (omega arith) in
     (b, omega (arith, data-seven (s .args .z) (set-of (s .args .p .s)) (s .pre .0 .small)))
 
 pivot-track-requires : tie.Need-pivot-track-requires
@@ -47,7 +48,7 @@ met-at-requires : tie.Need-met-at-requires
 met-at-requires c κs =
     let s = c .before .before .before .before .before .before .before in
     let v = known s in
-    let u = u-below (shape (s .args .z)) (s .args .p) (s .pre .0 .sized) (omega arith) in
+    let u = form-order (shape (s .args .z)) (s .args .p) (s .pre .0 .sized) .u-below (omega arith) in
     (omega arith, (omega arith, (omega arith, (u .on-diagonals, (s .pre .0 .errors, (omega arith, (omega arith, (omega arith, omega arith))))))))
 
 -- The row, with u taken off if there is u.
@@ -104,7 +105,7 @@ returns c =
     let a = s .args in
     let v = known s in
     lower-next (a .z) (a .end) (a .p) (now (a .rows)) (now (a .found)) (s .pre .0 .errors) (a .i) _ _ _ _ _
-    (omega arith) (row j) (omega (arith, data-small (shape (a .z)) (set-of (a .p .s)))) (rw (f .before .rest .ensures) at (f .first-cells .ensures))
+    (omega arith) (row j) (omega (arith, lag-sets (shape (a .z)) (set-of (a .p .s)))) (rw (f .before .rest .ensures) at (f .first-cells .ensures))
     (t .pivot-track .ensures) (g .gap-of .ensures) (rw (c .before .rest2 .ensures) at (c .quotient-word .ensures))
 
 pub lower-word-spec : {M : Type 1} → statement M

@@ -3,7 +3,8 @@ use native.Mathlib.Omega.{arith}
 use denote.Ref.{now}
 use borrow.Author.Needs.{needs}
 use Rattle.code.specs.Sizes.{shape}
-use Rattle.errors.proofs.Numbers.{u-below, v-below, Numbers, numbers}
+use Rattle.forms.proofs.Lows.{form-order}
+use Rattle.errors.proofs.Numbers.{Numbers, numbers}
 use Rattle.errors.proofs.Lows.{pair-next}
 use Rattle.errors.proofs.pair_word.Statement.{statement}
 use Rattle.errors.proofs.pair_word.Tie as tie
@@ -20,17 +21,17 @@ pivot-track-requires-2 c κs = search needs
 point-of-requires : tie.Need-point-of-requires
 point-of-requires c κs =
     let s = c .before .before .before .before in
-    (omega arith, (omega arith, (omega arith, u-below (shape (s .args .z)) (s .args .p) (s .pre .0 .sized) (omega arith) .on-diagonals)))
+    (omega arith, (omega arith, (omega arith, form-order (shape (s .args .z)) (s .args .p) (s .pre .0 .sized) .u-below (omega arith) .on-diagonals)))
 
 point-of-requires-2 : tie.Need-point-of-requires-2
 point-of-requires-2 c κs =
     let s = c .before .before .before .before .before in
-    (omega arith, (omega arith, (omega arith, v-below (shape (s .args .z)) (s .args .p) (s .pre .0 .sized) (omega arith) .on-diagonals)))
+    (omega arith, (omega arith, (omega arith, form-order (shape (s .args .z)) (s .args .p) (s .pre .0 .sized) .v-below (omega arith) .on-diagonals)))
 
 point-of-requires-3 : tie.Need-point-of-requires-3
 point-of-requires-3 c κs =
     let s = c .before .before .before .before .before .before in
-    (omega arith, (omega arith, (omega arith, u-below (shape (s .args .z)) (s .args .p) (s .pre .0 .sized) (omega arith) .on-diagonals)))
+    (omega arith, (omega arith, (omega arith, form-order (shape (s .args .z)) (s .args .p) (s .pre .0 .sized) .u-below (omega arith) .on-diagonals)))
 
 -- The numbers that the calls gave.
 known : (c : tie.After-point-of3) →
@@ -96,7 +97,7 @@ returns c =
     let f = l .before in
     let s = f .before .before .before .before .before .before .before .before in
     pair-next (s .args .z) (s .args .end) (s .args .p) (now (s .args .rows)) (now (s .args .found)) (s .pre .0 .sized) (s .pre .0 .errors) (s .args .i) _ _ _ _ _ _
-    (omega arith) (known (f .before)) (f .left-at .ensures) (l .left-at2 .ensures) (c .quotient-word .ensures)
+    (omega arith) (known (f .before)) (omega arith) (f .left-at .ensures) (l .left-at2 .ensures) (c .quotient-word .ensures)
 
 pub pair-word-spec : {M : Type 1} → statement M
 pair-word-spec =

@@ -4,15 +4,16 @@ use native.Mathlib.Omega.{arith}
 use borrow.Author.Needs.{needs}
 use Rattle.code.specs.Record.{data-tracks}
 use Rattle.code.specs.Sizes.{shape}
+use Rattle.code.proofs.Cell.{lag-sets}
 use Rattle.syndrome.specs.Syndrome.{set-of}
-use Rattle.errors.proofs.Points.{point-same, point-other, top-track, top-pivot, data-small}
+use Rattle.errors.proofs.Numbers.{point-same, point-other, top-track, top-pivot}
 use Rattle.errors.proofs.point_of.Statement.{statement}
 use Rattle.errors.proofs.point_of.Tie as tie
 
 returns : tie.Need-returns
 returns c =
     let a = c .before .args in
-    (point-same (shape (a .z)) (a .d) (a .s) (a .t) (a .j) (omega arith), omega (arith, data-small (shape (a .z)) (set-of (a .s))))
+    (point-same (shape (a .z)) (a .d) (a .s) (a .t) (a .j) (omega arith), omega (arith, lag-sets (shape (a .z)) (set-of (a .s))))
 
 data-tracks-requires : tie.Need-data-tracks-requires
 data-tracks-requires c κs = search needs

@@ -1,8 +1,9 @@
 -- `reach_of`: track 0, or a data track.
 use mathlib.Core.Path.{sym}
+use native.Mathlib.Omega.{arith}
 use borrow.Author.Needs.{needs}
 use Rattle.code.specs.Sizes.{shape}
-use Rattle.errors.proofs.LowTracks.{reach-data}
+use Rattle.forms.proofs.Strides.{reach-data}
 use Rattle.errors.proofs.reach_of.Statement.{statement}
 use Rattle.errors.proofs.reach_of.Tie as tie
 
@@ -10,7 +11,7 @@ returns : tie.Need-returns
 returns c = search needs
 
 returns-2 : tie.Need-returns-2
-returns-2 c = let a = c .before .args in sym (reach-data (shape (a .z)) (a .w) (a .t) (c .if1 .left))
+returns-2 c = let a = c .before .args in sym (reach-data (shape (a .z)) (a .w) (a .t) (omega arith))
 
 pub reach-of-spec : {M : Type 1} → statement M
 reach-of-spec = tie.close (tie.spec returns returns-2)

@@ -5,7 +5,7 @@ use denote.Ref.{now}
 use Rattle.code.specs.Sizes.{shape}
 use Rattle.syndrome.specs.Syndrome.{set-of}
 use Rattle.errors.specs.Rows.{cell, diagonals, verticals}
-use Rattle.errors.proofs.LowTracks.{v-small, u-small}
+use Rattle.forms.proofs.Lows.{form-order}
 use Rattle.errors.proofs.Pivoting.{residue-none, residue-one, residue-two}
 use Rattle.errors.proofs.residue_at.Statement.{statement}
 use Rattle.errors.proofs.residue_at.Tie as tie
@@ -21,7 +21,7 @@ pivot-track-requires c κs = search needs
 
 met-at-requires : tie.Need-met-at-requires
 met-at-requires c κs = let q = c .before .before .before .before .before .before in let p = q .pre in let g = p .0 in
-    (g .small, (p .1 .0, (g .sized .s-small, (v-small _ (q .args .p) (g .sized) (omega arith), (g .errors, (omega arith, (omega (arith, g .small .t1-small), (p .1 .1 .1, omega (arith, g .end-small)))))))))
+    (g .small, (p .1 .0, (g .sized .s-small, (form-order _ (q .args .p) (g .sized) .v-below (omega arith) .on-diagonals, (g .errors, (omega arith, (omega (arith, g .small .t1-small), (p .1 .1 .1, omega (arith, g .end-small)))))))))
 
 returns-2 : tie.Need-returns-2
 returns-2 c = let q = c .before .before .before .before .before .before .before .before .before in let a = q .args in
@@ -33,7 +33,7 @@ pivot-track-requires-2 c κs = search needs
 
 met-at-requires-2 : tie.Need-met-at-requires-2
 met-at-requires-2 c κs = let q = c .before .before .before .before .before .before .before .before .before .before in let p = q .pre in let g = p .0 in
-    (g .small, (p .1 .0, (g .sized .q-small, (u-small _ (q .args .p) (g .sized) (omega arith), (g .errors, (omega arith, (omega (arith, g .small .t1-small), (p .1 .1 .1, omega (arith, g .end-small)))))))))
+    (g .small, (p .1 .0, (g .sized .q-small, (form-order _ (q .args .p) (g .sized) .u-below (omega arith) .on-diagonals, (g .errors, (omega arith, (omega (arith, g .small .t1-small), (p .1 .1 .1, omega (arith, g .end-small)))))))))
 
 returns-3 : tie.Need-returns-3
 returns-3 c = let q = c .before .before .before .before .before .before .before .before .before .before .before in let a = q .args in

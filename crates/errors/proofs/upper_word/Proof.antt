@@ -3,7 +3,7 @@ use native.Mathlib.Omega.{arith}
 use denote.Ref.{now}
 use borrow.Author.Needs.{needs}
 use Rattle.code.specs.Sizes.{shape}
-use Rattle.errors.proofs.Numbers.{u-below}
+use Rattle.forms.proofs.Lows.{form-order}
 use Rattle.errors.proofs.Lows.{upper-next}
 use Rattle.errors.proofs.upper_word.Statement.{statement}
 use Rattle.errors.proofs.upper_word.Tie as tie
@@ -20,7 +20,7 @@ pivot-track-requires c κs = search needs
 gap-of-requires : tie.Need-gap-of-requires
 gap-of-requires c κs =
     let s = c .before .before .before in
-    (omega arith, (omega arith, omega (arith, c .pivot-track .ensures, u-below (shape (s .args .z)) (s .args .p) (s .pre .1 .0) (omega arith))))
+    (omega arith, (omega arith, omega (arith, c .pivot-track .ensures, form-order (shape (s .args .z)) (s .args .p) (s .pre .1 .0) .u-below (omega arith))))
 
 quotient-word-requires : tie.Need-quotient-word-requires
 quotient-word-requires c κs = search needs
