@@ -1,14 +1,21 @@
 -- All words, one after the other.
-use mathlib.Core.Path.{_≡_, sym, _∙_}
+use mathlib.Core.Path.{_≡_, refl, sym, ap, _∙_}
+use mathlib.Core.Logic.{_≢_, by-cases}
 use mathlib.Core.Bool.{Bool, true, false, true≢false}
 use mathlib.Core.List.{List}
-use Prim.Native.Nat.{ℕ, _+_, _*_, _<_, _≤_}
+use Prim.Native.Nat.{ℕ, _+_, _*_, _-_, _<_, _≤_}
+use native.Mathlib.Decide.{decLt, ℕ-discrete}
 use native.Mathlib.Omega.{arith}
-use Rattle.code.specs.Record.{track-length}
+use Rattle.code.specs.Record.{TrackSet, A, B, track-length}
 use Rattle.code.specs.Sizes.{shape}
 use Rattle.code.specs.declared.Sizes.{Sizes}
+use Rattle.syndrome.specs.Syndrome.{row-of}
 use Rattle.plans.specs.declared.Form.{Form}
-use Rattle.errors.specs.Steps.{ComputedIn, TestedIn, PivotsIn, Later, Stepped, Fresh, Found}
+use Rattle.words.proofs.Bit.{bit-zero}
+use Rattle.errors.specs.Rows.{cell, Put}
+use Rattle.errors.specs.Steps.{ComputedIn, TestedIn, PivotsIn, Given, Later, Stepped, Quiet, Fresh, Begun, Found}
+use Rattle.errors.proofs.Words.{put-later, later-both}
+use Rattle.errors.proofs.Beginning.{start-computed, start-tested, start-pivots, bare-computed, bare-tested, bare-pivots}
 
 -- Errors and tests of the words before i, none before the start.
 pub record Finding (z : Sizes) (end : ℕ) (p : Form) (rows found : List ℕ) (start i : ℕ) : Type 0 where
@@ -53,3 +60,68 @@ find-all z end p rows found start i f h = record {
   pivots = λ e. f .pivots;
   failed = λ e. absurd (true≢false e);
 }
+
+-- ## The word to begin with
+
+pub begin-start : (p : Form) (start : ℕ) (found : List ℕ) → start ≤ 33 → Fresh found start → Begun p start found found start
+begin-start p start found h f = record {
+  order = omega arith;
+  within = h;
+  fresh = f;
+  same = λ e. refl;
+  alone = λ d. absurd (d refl);
+  zero = λ d. absurd (d refl);
+}
+
+pub begin-later : (p : Form) (start : ℕ) (found mid after : List ℕ) → p .below ≡ 0 → 0 < start → start < 33 → Fresh found start →
+    Put 5 found 2 start 0 mid → Put 5 mid 3 start 0 after → Begun p start found after (start + 1)
+begin-later p start found mid after none pos h f w v = record {
+  order = omega arith;
+  within = omega arith;
+  fresh = fresh-later start start found after (omega arith) later f;
+  same = λ e. absurd (omega arith);
+  alone = λ d. (none, pos, refl);
+  zero = λ d. zero;
+}
+  where
+    later : Later start found after
+    later = later-both start _ _ _ (put-later found 2 start 0 mid w) (put-later mid 3 start 0 after v)
+
+    row-zero : (r : ℕ) → r < 5 → ((k : ℕ) → k < 64 → cell after r (64 * start + k) ≡ 0) → (m : ℕ) → m < 64 * (start + 1) → cell after r m ≡ 0
+    row-zero r l here m b = by-cases (decLt m (64 * start)) (λ e. later .early r m l e ∙ f .zero r m l e)
+        (λ e. ap (cell after r) (sym-plus m (omega arith)) ∙ here (m - 64 * start) (omega arith))
+      where
+        sym-plus : (m : ℕ) → 64 * start ≤ m → m ≡ 64 * start + (m - 64 * start)
+        sym-plus m l = omega arith
+
+    zero : (c : TrackSet) (m : ℕ) → m < 64 * (start + 1) → cell after (2 + row-of c) m ≡ 0
+    zero A = row-zero 2 (omega arith) (λ k l. ap (λ x. x (64 * start + k)) (v .there 2 (omega arith) (omega arith)) ∙ w .here k l ∙ bit-zero k)
+    zero B = row-zero 3 (omega arith) (λ k l. v .here k l ∙ bit-zero k)
+
+-- Before it all is done.
+pub begin-finding : (z : Sizes) (end : ℕ) (p : Form) (rows found : List ℕ) → Given z end p rows found → (start : ℕ) → Quiet z rows start → Fresh found start →
+    (after : List ℕ) (r : ℕ) → Begun p start found after r → Finding z end p rows after start r
+begin-finding z end p rows found given start quiet fresh after r w = by-cases (ℕ-discrete r start) at-start a-word-later
+  where
+    at-start : r ≡ start → Finding z end p rows after start r
+    at-start e = rw (w .same e, e) (record {
+      order = omega arith;
+      within = omega (arith, w .within);
+      fresh = fresh;
+      computed = start-computed z end p rows found given start quiet fresh;
+      tested = start-tested z end p rows found given start quiet fresh;
+      pivots = start-pivots z end p rows found given start quiet fresh;
+    })
+
+    a-word-later : r ≢ start → Finding z end p rows after start r
+    a-word-later d =
+        let a = w .alone d in
+        let zero : (c : TrackSet) (m : ℕ) → m < 64 * (start + 1) → cell after (2 + row-of c) m ≡ 0 = λ c m l. w .zero d c m (omega arith) in
+        rw (a .2) (record {
+          order = omega arith;
+          within = omega (arith, w .within);
+          fresh = w .fresh;
+          computed = bare-computed z end p rows found given start quiet fresh (a .0) (a .1) after zero;
+          tested = bare-tested z end p rows found given start quiet fresh (a .0) (a .1) after zero;
+          pivots = bare-pivots z end p rows found given start quiet fresh (a .0) (a .1) after zero;
+        })

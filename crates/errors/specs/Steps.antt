@@ -125,6 +125,15 @@ pub record Fresh (found : List ℕ) (start : ℕ) : Type 0 where
   pub rows : Rows 5 found
   pub zero : (r m : ℕ) → r < 5 → m < 64 * start → cell found r m ≡ 0
 
+-- The word to begin with: the start or, for pivots alone, the one after it, and their errors before it are 0.
+pub record Begun (p : Form) (start : ℕ) (before after : List ℕ) (r : ℕ) : Type 0 where
+  pub order : start ≤ r
+  pub within : r ≤ 33
+  pub fresh : Fresh after start
+  pub same : r ≡ start → after ≡ before
+  pub alone : r ≢ start → (p .below ≡ 0) × (0 < start) × (r ≡ start + 1)
+  pub zero : r ≢ start → (c : TrackSet) (m : ℕ) → m < 64 * r → cell after (2 + row-of c) m ≡ 0
+
 -- What `find` gives: all errors, and all tests are passed; or the errors so far, and a test is failed.
 pub record Found (z : Sizes) (end : ℕ) (p : Form) (rows found : List ℕ) (r : Bool) : Type 0 where
   pub upto : ℕ

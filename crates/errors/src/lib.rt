@@ -39,6 +39,7 @@ ghost use Rattle.errors.specs.Steps.{
   Stepped,
   Quiet,
   Fresh,
+  Begun,
   Found,
 };
 
@@ -462,6 +463,27 @@ fn step(rows: &[u64], found: &mut [u64], z: Sizes, end: usize, p: Form, i: usize
 
 // ---- All words
 
+// The word to begin with. Tracks below the pivots may be wrong from the start on; the pivots alone are not before the first sum that is
+// not 0, a word later.
+fn begin(found: &mut [u64], p: Form, start: usize) -> usize
+    requires { ⌜ start ≤ 33 ⌝ }
+    requires { ⌜ Fresh (now found) start ⌝ }
+    ensures { λ r. ⌜ Begun p start (now (found .entry)) (now (found .exit)) r ⌝ }
+{
+    if 1 <= p.below {
+        return start;
+    }
+    if start == 0 {
+        return start;
+    }
+    if 33 <= start {
+        return start;
+    }
+    put_word(found, 2, start, 0);
+    put_word(found, 3, start, 0);
+    start + 1
+}
+
 // Finds the errors of a form's tracks from word `start` on, before which there are none. True: they make a good record. False: no
 // good record differs from this one on the form's tracks alone.
 pub fn find(rows: &[u64], found: &mut [u64], z: Sizes, end: usize, p: Form, start: usize) -> bool
@@ -473,7 +495,7 @@ pub fn find(rows: &[u64], found: &mut [u64], z: Sizes, end: usize, p: Form, star
     ensures found { λ r. ⌜ Found z end p (now (rows .entry)) (now (found .exit)) r ⌝ }
 {
     let l = z.positions + (z.t1 + z.t2 + 1);
-    let mut i = start;
+    let mut i = begin(found, p, start);
     while 64 * i < l {
         if !step(rows, found, z, end, p, i) {
             return false;

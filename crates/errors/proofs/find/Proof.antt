@@ -4,8 +4,7 @@ use native.Mathlib.Omega.{arith}
 use borrow.Author.Needs.{needs}
 use borrow.Author.Tests.{not-true, not-false}
 use Rattle.errors.proofs.Words.{kept-given}
-use Rattle.errors.proofs.Beginning.{start-computed, start-tested, start-pivots}
-use Rattle.errors.proofs.Finding.{Finding, fresh-later, find-more, find-failed, find-all}
+use Rattle.errors.proofs.Finding.{Finding, begin-finding, fresh-later, find-more, find-failed, find-all}
 use Rattle.errors.proofs.find.Statement.{statement}
 use Rattle.errors.proofs.find.Tie as tie
 
@@ -24,17 +23,11 @@ add-l-2 c = search needs
 add-l-3 : tie.Need-add-l-3 Inv-loop μ-loop
 add-l-3 c = search needs
 
+begin-requires : tie.Need-begin-requires Inv-loop μ-loop
+begin-requires c κs = search needs
+
 loop-holds : tie.Need-loop-holds Inv-loop μ-loop
-loop-holds c =
-    let s = c .before .before .before .before .pre in
-    record {
-      order = omega arith;
-      within = s .1 .0;
-      fresh = s .1 .1 .1;
-      computed = start-computed _ _ _ _ _ (s .0) _ (s .1 .1 .0) (s .1 .1 .1);
-      tested = start-tested _ _ _ _ _ (s .0) _ (s .1 .1 .0) (s .1 .1 .1);
-      pivots = start-pivots _ _ _ _ _ (s .0) _ (s .1 .1 .0) (s .1 .1 .1);
-    }
+loop-holds c = let s = c .before .before .before .before .before .before .before .before .pre in begin-finding _ _ _ _ _ (s .0) _ (s .1 .1 .0) (s .1 .1 .1) _ _ (c .before .before .begin .ensures)
 
 mul-loop : tie.Need-mul-loop Inv-loop μ-loop
 mul-loop c = omega (arith, c .loop .inv .within)
@@ -42,7 +35,7 @@ mul-loop c = omega (arith, c .loop .inv .within)
 step-requires : tie.Need-step-requires Inv-loop μ-loop
 step-requires c κs =
     let f = c .before .before .loop .inv in
-    (kept-given _ _ _ _ _ _ (c .before .before .before .before .before .before .before .pre .0) (f .fresh .rows), (omega arith, (f .computed, (f .tested, f .pivots))))
+    (kept-given _ _ _ _ _ _ (c .before .before .before .before .before .before .before .before .before .before .before .pre .0) (f .fresh .rows), (omega arith, (f .computed, (f .tested, f .pivots))))
 
 same-length : tie.Need-same-length Inv-loop μ-loop
 same-length c = search needs
@@ -64,7 +57,7 @@ loop-less c =
 loop-again : tie.Need-loop-again Inv-loop μ-loop
 loop-again c =
     let f = c .before .before .before .before .before .before .loop .inv in
-    find-more _ _ _ _ _ _ _ f _ _ (c .before .before .before .step .ensures) (not-false _ (c .if1 .left)) (omega (arith, c .before .before .before .before .before .before .before .before .before .before .before .pre .0 .small))
+    find-more _ _ _ _ _ _ _ f _ _ (c .before .before .before .step .ensures) (not-false _ (c .if1 .left)) (omega (arith, c .before .before .before .before .before .before .before .before .before .before .before .before .before .before .before .pre .0 .small))
 
 same-length-2 : tie.Need-same-length-2 Inv-loop μ-loop
 same-length-2 c = search needs
@@ -83,6 +76,7 @@ find-spec =
     add-l
     add-l-2
     add-l-3
+    begin-requires
     loop-holds
     mul-loop
     step-requires
