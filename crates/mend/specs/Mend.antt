@@ -5,7 +5,7 @@ use mathlib.Core.Bool.{Bool, true, false}
 use mathlib.Core.List.{List}
 use Prim.Native.Nat.{ℕ, suc, _+_, _*_, _<_, _≤_, _%_}
 use lib.ListN.{length, getD}
-use Rattle.code.specs.Record.{TrackSet, data-tracks, tracks, track-length, Cells}
+use Rattle.code.specs.Record.{TrackSet, tracks, track-length, Cells}
 use Rattle.code.specs.Image.{cells}
 use Rattle.code.specs.Flags.{TrackFlags}
 use Rattle.code.specs.Sizes.{shape}

@@ -10,7 +10,7 @@ use Rattle.code.specs.Flags.{TrackFlags}
 use Rattle.code.specs.Sizes.{shape, Small}
 use Rattle.code.specs.declared.Sizes.{Sizes}
 use Rattle.syndrome.specs.Syndrome.{row-of, Holds}
-use Rattle.forms.specs.Found.{Sums, Tails}
+use Rattle.forms.specs.Found.{Tails}
 use Rattle.errors.specs.Rows.{diagonals, verticals}
 use Rattle.mend.specs.Mend.{RowsOf, TailsBut, TailsCleared}
 use Rattle.repair.specs.declared.Needs.{Needs}

@@ -1,12 +1,11 @@
 -- Whole records: what repair comes to.
-use mathlib.Core.Path.{_≡_, refl, sym, ap, _∙_}
-use mathlib.Core.Logic.{_≢_, by-cases, inl, inr}
+use mathlib.Core.Path.{_≡_, refl, _∙_}
+use mathlib.Core.Logic.{by-cases, inl, inr}
 use mathlib.Core.Bool.{Bool, true, false}
 use mathlib.Core.List.{List}
-use Prim.Native.Nat.{ℕ, suc, _<_}
+use Prim.Native.Nat.{ℕ}
 use native.Mathlib.Decide.{ℕ-discrete}
 use native.Mathlib.Omega.{arith}
-use lib.ListN.{length}
 use Rattle.code.specs.Record.{TrackSet, A, B, Shape, tracks, track-length, Cells, Good}
 use Rattle.code.specs.Image.{image-size, cells}
 use Rattle.code.specs.Flags.{TrackFlags, whole, AgreeOff, Within}
@@ -17,10 +16,8 @@ use Rattle.code.specs.declared.Sizes.{Sizes}
 use Rattle.code.proofs.Codes.{code-within}
 use Rattle.code.proofs.Front.{stays-all}
 use Rattle.code.proofs.Outputs.{agree-on, not-found}
-use Rattle.track.specs.Track.{known, Copied}
+use Rattle.track.specs.Track.{known}
 use Rattle.track.proofs.Lost.{LostCovered, copy-agree, agree-copy}
-use Rattle.syndrome.specs.Syndrome.{Image}
-use Rattle.syndrome.proofs.Copies.{copy-made, copy-image}
 use Rattle.solver.specs.Solver.{marked}
 use Rattle.changes.specs.Changes.{OnlyMarked}
 use Rattle.plans.specs.declared.Form.{Form}

@@ -1,7 +1,7 @@
 -- What the errors that were found say of the good records: of those that agree with the image off flags, by way of the working copy.
-use mathlib.Core.Path.{_≡_, refl, sym, ap, _∙_}
+use mathlib.Core.Path.{_≡_, refl, sym, _∙_}
 use mathlib.Core.Logic.{_≢_, by-cases}
-use mathlib.Core.Bool.{Bool, true, false}
+use mathlib.Core.Bool.{true, false}
 use mathlib.Core.List.{List}
 use Prim.Native.Nat.{ℕ, suc, _+_, _<_, _≤_, _%_}
 use native.Mathlib.Decide.{decLe}
@@ -16,8 +16,7 @@ use Rattle.code.proofs.Linear.{plus, good-same}
 use Rattle.syndrome.specs.Syndrome.{row-of}
 use Rattle.plans.specs.declared.Form.{Form}
 use Rattle.plans.specs.Plans.{room, Fits}
-use Rattle.forms.specs.Streams.{Stream}
-use Rattle.forms.specs.Found.{pivot-sum, Tested}
+use Rattle.forms.specs.Found.{pivot-sum}
 use Rattle.forms.proofs.Complete.{complete}
 use Rattle.forms.proofs.Sound.{sound, sound-agree}
 use Rattle.errors.specs.Rows.{cell, diagonals, verticals}

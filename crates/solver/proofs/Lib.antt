@@ -3,4 +3,3 @@ pub mod Plans
 pub mod Settling
 pub mod Stepping
 pub mod Advancing
-pub mod Waiting

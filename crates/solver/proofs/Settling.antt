@@ -28,7 +28,7 @@ set-discrete B A = no (λ e. let z : _≡_ {A = ℕ} 0 1 = cc in omega arith)
 set-discrete B B = yes refl
 
 -- Two cells are the same one or not.
-pub same-cell : {P : Type 0} (r s : TrackSet) (u t q p : ℕ) → (r ≡ s → u ≡ t → q ≡ p → P) → ((r ≡ s → u ≡ t → q ≡ p → ⊥) → P) → P
+same-cell : {P : Type 0} (r s : TrackSet) (u t q p : ℕ) → (r ≡ s → u ≡ t → q ≡ p → P) → ((r ≡ s → u ≡ t → q ≡ p → ⊥) → P) → P
 same-cell r s u t q p a b = by-cases (set-discrete r s)
     (λ e. by-cases (ℕ-discrete u t) (λ f. by-cases (ℕ-discrete q p) (a e f) (λ d. b (λ _ _. d))) (λ d. b (λ _ f _. d f)))
     (λ d. b (λ e _ _. d e))
@@ -73,10 +73,6 @@ settled-same {z} {s} {t} {p} bound d k e = record {
   there = λ r u q h b n. refl;
 }
 
--- A track past the bound, where nothing was done.
-pub settled-none : {z : Sizes} {s t p : ℕ} {out syn : List ℕ} (bound d : ℕ) → Kept z out syn → bound ≤ t → Settled z bound s t p d out out syn
-settled-none bound d k e = record { kept = k; here = λ h. absurd (omega arith); there = λ r u q h b n. refl }
-
 -- A cell to which a bit is added.
 pub settled-added : {z : Sizes} {s t p : ℕ} {out after syn syn′ : List ℕ} (bound w : ℕ) → w < 2 → Kept z out syn → IsCell z s t p →
     CellAdded z s t p w out after syn′ → Settled z bound s t p w out after syn′
@@ -90,7 +86,7 @@ pub settled-at : {z : Sizes} {bound s t p : ℕ} {out after syn : List ℕ} (sum
 settled-at sums i j e w = rw e at w
 
 -- By another bound and another sum of the same parity.
-pub settled-by : {z : Sizes} {bound s t p d : ℕ} {out after syn : List ℕ} (bound′ d′ : ℕ) → Settled z bound s t p d out after syn →
+settled-by : {z : Sizes} {bound s t p d : ℕ} {out after syn : List ℕ} (bound′ d′ : ℕ) → Settled z bound s t p d out after syn →
     (t < bound′ → (t < bound) × (d % 2 ≡ d′ % 2)) → Settled z bound′ s t p d′ out after syn
 settled-by bound′ d′ w e = record {
   kept = w .kept;

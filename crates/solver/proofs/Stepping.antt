@@ -16,20 +16,11 @@ use Rattle.code.proofs.Cell.{by-vertical}
 use Rattle.code.proofs.Solving.{check-track, lowest-cell, highest-cell}
 use Rattle.syndrome.specs.Syndrome.{set-of}
 use Rattle.solver.specs.declared.Plan.{Plan}
-use Rattle.solver.specs.Solver.{Named, is-low, is-high, is-last, Planned}
-use Rattle.solver.specs.Steps.{Settled, tail-sum, ByOwn, ByOther, ByVertical, ByTail, Right, RightSet, Still, Made, Fits, Known, Stepped}
+use Rattle.solver.specs.Solver.{Named, is-low, is-high, is-last}
+use Rattle.solver.specs.Steps.{Settled, tail-sum, ByOwn, ByOther, ByVertical, ByTail, Still, Made, Fits, Known, Stepped}
 use Rattle.solver.proofs.Settling.{RightCell, right-cell}
 
--- What is right stays right: a working copy before m, a set, and on through two steps.
-pub still-right : {sh : Shape} {f : TrackFlags} {y x x′ : Cells} {m : ℕ} → m ≤ track-length sh → Still sh y x x′ → Right sh f y x m → Right sh f y x′ m
-still-right b w r = record {
-  before = λ s t q l h. w .cell s t q l (omega arith) (r .before s t q l h);
-  clear = λ s t q l h e. w .cell s t q l h (r .clear s t q l h e);
-}
-
-pub still-set : {sh : Shape} {y x x′ : Cells} {s : TrackSet} {m : ℕ} → m ≤ track-length sh → Still sh y x x′ → RightSet sh y x s m → RightSet sh y x′ s m
-still-set {s = s} b w r = record { cell = λ t q l h. w .cell s t q l (omega arith) (r .cell t q l h) }
-
+-- What is right stays right: through two steps, and what a step goes by.
 pub still-both : {sh : Shape} {y x x′ x″ : Cells} → Still sh y x x′ → Still sh y x′ x″ → Still sh y x x″
 still-both v w = record { cell = λ s t q l h e. w .cell s t q l h (v .cell s t q l h e) }
 
@@ -136,30 +127,3 @@ stepped-tail {z} {s} {p} {m} {o₀} {o₁} {o₂} {o₃} k b v w u = stepped v w
     let e = rest-cells sh f y c p m (cells sh o₀) (cells sh o₁) (cells sh o₂) b known v′ w′ in
     all-cells sh f y c p m (cells sh o₀) (cells sh o₁) (cells sh o₂) b known v′ w′ (cells sh o₃)
     (right-cell y u (λ l. (l, tail-cell z (cells sh o₂) y good c (p .last) m k b (known₂ .before) l (λ _. e)))))
-
--- ## Whole tracks
-
--- What a plan for flagged tracks fits, and what is known where a working copy is right on the other tracks.
-fits-tracks : {sh : Shape} {f : TrackFlags} {s : TrackSet} {p : Plan} → Planned sh f s p → Fits sh f s p
-fits-tracks plan = record {
-  low-data = plan .low-data;
-  below = plan .below;
-  high-data = λ l. let d = plan .high-data l in (omega arith, d .1);
-  above = plan .above;
-}
-
-known-tracks : {sh : Shape} {f : TrackFlags} {s : TrackSet} {p : Plan} {y x : Cells} {m : ℕ} → m < track-length sh → Planned sh f s p → Right sh f y x m →
-    (p .high < tracks sh s → RightSet sh y x (other s) (track-length sh)) → Known sh f s p y x m
-known-tracks {s = s} {m = m} b plan r a = record {
-  before = r .before;
-  rest = λ t l n. r .clear s t m l b (plan .others t l n);
-  clear = λ d c t q l e u v. r .clear c t q l (omega arith) e;
-  across = λ d h t q l u v. a h .cell t q l (omega arith);
-}
-
--- So a step makes the set right at m.
-pub made-tracks : {z : Sizes} {s : ℕ} {p : Plan} {m : ℕ} {out after syn : List ℕ} (f : TrackFlags) (y : Cells) → m < track-length (shape z) → Stepped z s p m out after syn →
-    Planned (shape z) f (set-of s) p → Good (shape z) y → Right (shape z) f y (cells (shape z) out) m →
-    (p .high < tracks (shape z) (set-of s) → RightSet (shape z) y (cells (shape z) out) (other (set-of s)) (track-length (shape z))) →
-    Made (shape z) y (cells (shape z) out) (cells (shape z) after) (set-of s) m
-made-tracks f y b w plan good right ahead = w .made f y (fits-tracks plan) good (known-tracks b plan right ahead)

@@ -1,16 +1,13 @@
--- What the solver asks and gives.
+-- Marks, and the plans for the marked tracks of a set.
 use mathlib.Core.Path.{_≡_}
-use mathlib.Core.Bool.{Bool, true, false}
+use mathlib.Core.Bool.{true, false}
 use mathlib.Core.List.{List}
 use Prim.Native.Nat.{ℕ, _<_, _≤_}
 use lib.Dec.{eqb}
 use lib.ListN.{getD}
-use Rattle.code.specs.Record.{TrackSet, A, B, Shape, data-tracks, tracks, track-length, Cells, Good}
-use Rattle.code.specs.Image.{track-number, cells}
-use Rattle.code.specs.Flags.{TrackFlags, whole, flag-count, AgreeOff}
-use Rattle.code.specs.Sizes.{shape}
-use Rattle.code.specs.declared.Sizes.{Sizes}
-use Rattle.syndrome.specs.Syndrome.{Kept}
+use Rattle.code.specs.Record.{TrackSet, A, B, Shape, data-tracks, tracks}
+use Rattle.code.specs.Image.{track-number}
+use Rattle.code.specs.Flags.{TrackFlags, flag-count}
 use Rattle.solver.specs.declared.Plan.{Plan}
 
 -- Flags as a list of marks, one a track number.
@@ -43,24 +40,7 @@ pub record Single (sh : Shape) (s : TrackSet) (p : Plan) : Type 0 where
   pub no-low : tracks sh s ≤ p .low
   pub no-high : tracks sh s ≤ p .high
 
--- Beside three flagged tracks in a set the other set has one at the most.
-pub record Beside (sh : Shape) (a b : Plan) : Type 0 where
-  pub in-a : a .high < tracks sh A → Single sh B b
-  pub in-b : b .high < tracks sh B → Single sh A a
-
 -- The plan of a set.
 abbrev pub plan-of : Plan → Plan → TrackSet → Plan
 plan-of a b A = a
 plan-of a b B = b
-
--- Only tracks that the plans name were changed.
-pub record Frame (sh : Shape) (a b : Plan) (x y : Cells) : Type 0 where
-  pub same : (s : TrackSet) (t m : ℕ) → t < tracks sh s → m < track-length sh → (Named (plan-of a b s) t → ⊥) → x s t m ≡ y s t m
-
--- What `solve` gives: true with a good record, or false and there is none.
-pub record Solved (z : Sizes) (a b : Plan) (out after syn : List ℕ) (r : Bool) : Type 0 where
-  pub kept : Kept z after syn
-  pub frame : Frame (shape z) a b (cells (shape z) out) (cells (shape z) after)
-  pub good : r ≡ true → Good (shape z) (cells (shape z) after)
-  pub none : r ≡ false → (f : TrackFlags) (y : Cells) → Planned (shape z) f A a → Planned (shape z) f B b → Beside (shape z) a b →
-      Good (shape z) y → AgreeOff (shape z) (whole f) (cells (shape z) out) y → ⊥

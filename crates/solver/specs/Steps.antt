@@ -3,18 +3,17 @@ use mathlib.Core.Path.{_≡_}
 use mathlib.Core.Logic.{_≢_}
 use mathlib.Core.Bool.{Bool, true, false}
 use mathlib.Core.List.{List}
-use Prim.Native.Nat.{ℕ, zero, suc, _+_, _*_, _-_, _<_, _≤_, _%_}
+use Prim.Native.Nat.{ℕ, zero, suc, _+_, _-_, _<_, _≤_, _%_}
 use lib.Dec.{ltb}
-use lib.ListN.{length, getD}
 use Rattle.code.specs.Record.{TrackSet, other, Shape, data-tracks, tracks, lag, track-length, Cells, diagonal, vertical, Good}
 use Rattle.code.specs.Image.{cells}
 use Rattle.code.specs.Flags.{TrackFlags}
 use Rattle.code.specs.Reach.{pick}
-use Rattle.code.specs.Sizes.{shape, Small}
+use Rattle.code.specs.Sizes.{shape}
 use Rattle.code.specs.declared.Sizes.{Sizes}
 use Rattle.syndrome.specs.Syndrome.{set-of, Kept}
 use Rattle.solver.specs.declared.Plan.{Plan}
-use Rattle.solver.specs.Solver.{Named, Planned, Single, Beside, plan-of, Frame}
+use Rattle.solver.specs.Solver.{Named, Single}
 
 -- ## One cell
 
@@ -49,15 +48,6 @@ ByTail z s t p out after syn =
 
 -- ## A working copy x on the way to a good record y
 
--- They agree before m, and on the tracks that are not flagged.
-pub record Right (sh : Shape) (f : TrackFlags) (y x : Cells) (m : ℕ) : Type 0 where
-  pub before : (s : TrackSet) (t q : ℕ) → t < tracks sh s → q < m → x s t q ≡ y s t q
-  pub clear : (s : TrackSet) (t q : ℕ) → t < tracks sh s → q < track-length sh → f s t ≡ false → x s t q ≡ y s t q
-
--- They agree on a set before m.
-pub record RightSet (sh : Shape) (y x : Cells) (s : TrackSet) (m : ℕ) : Type 0 where
-  pub cell : (t q : ℕ) → t < tracks sh s → q < m → x s t q ≡ y s t q
-
 -- Wherever x agrees with y, x′ does.
 pub record Still (sh : Shape) (y x x′ : Cells) : Type 0 where
   pub cell : (s : TrackSet) (t q : ℕ) → t < tracks sh s → q < track-length sh → x s t q ≡ y s t q → x′ s t q ≡ y s t q
@@ -66,13 +56,6 @@ pub record Still (sh : Shape) (y x x′ : Cells) : Type 0 where
 pub record Made (sh : Shape) (y x x′ : Cells) (s : TrackSet) (m : ℕ) : Type 0 where
   pub still : Still sh y x x′
   pub cell : (t : ℕ) → t < tracks sh s → x′ s t m ≡ y s t m
-
--- What the solver knows before it solves m. Beside three flagged tracks the other set is right as a whole.
-pub record Ready (sh : Shape) (f : TrackFlags) (a b : Plan) (y x : Cells) (m : ℕ) : Type 0 where
-  pub planned : (s : TrackSet) → Planned sh f s (plan-of a b s)
-  pub good : Good sh y
-  pub right : Right sh f y x m
-  pub ahead : (s : TrackSet) → plan-of a b s .high < tracks sh s → RightSet sh y x (other s) (track-length sh)
 
 -- ## Steps
 
@@ -114,75 +97,7 @@ pub record Ahead (z : Sizes) (s t from to : ℕ) (out after syn : List ℕ) : Ty
   pub right : (y : Cells) → Good (shape z) y → Others z s t from to y out → t < tracks (shape z) (set-of s) →
       (q : ℕ) → from ≤ q → q < to → cells (shape z) after (set-of s) t q ≡ y (set-of s) t q
 
--- Both sets are solved from one position up to another.
-pub record Advanced (z : Sizes) (a b : Plan) (from to : ℕ) (out after syn : List ℕ) : Type 0 where
-  pub kept : Kept z after syn
-  pub frame : Frame (shape z) a b (cells (shape z) out) (cells (shape z) after)
-  pub ready : (f : TrackFlags) (y : Cells) → Ready (shape z) f a b y (cells (shape z) out) from → Ready (shape z) f a b y (cells (shape z) after) to
-
--- One set is solved before m, while the other set is right as a whole.
-pub record Alone (z : Sizes) (a b : Plan) (s m : ℕ) (out after syn : List ℕ) : Type 0 where
-  pub kept : Kept z after syn
-  pub frame : Frame (shape z) a b (cells (shape z) out) (cells (shape z) after)
-  pub ready : (f : TrackFlags) (y : Cells) → Ready (shape z) f a b y (cells (shape z) out) 0 →
-      RightSet (shape z) y (cells (shape z) out) (other (set-of s)) (track-length (shape z)) →
-      Ready (shape z) f a b y (cells (shape z) after) m × RightSet (shape z) y (cells (shape z) after) (other (set-of s)) (track-length (shape z))
-
--- Of a record y that is as Given says: the data are solved, or there is no such record.
-pub record Outcome (z : Sizes) (a b : Plan) (Given : TrackFlags → Cells → Type 0) (out after syn : List ℕ) (r : Bool) : Type 0 where
-  pub kept : Kept z after syn
-  pub frame : Frame (shape z) a b (cells (shape z) out) (cells (shape z) after)
-  pub ready : r ≡ true → (f : TrackFlags) (y : Cells) → Given f y → Ready (shape z) f a b y (cells (shape z) after) (z .positions)
-  pub none : r ≡ false → (f : TrackFlags) (y : Cells) → Given f y → ⊥
-
--- A record y that the working copy x is to become.
-pub record Begun (sh : Shape) (f : TrackFlags) (a b : Plan) (y x : Cells) : Type 0 where
-  pub planned : (s : TrackSet) → Planned sh f s (plan-of a b s)
-  pub beside : Beside sh a b
-  pub good : Good sh y
-  pub clear : (s : TrackSet) (t q : ℕ) → t < tracks sh s → q < track-length sh → f s t ≡ false → x s t q ≡ y s t q
-
-abbrev pub AllSolved : Sizes → Plan → Plan → List ℕ → List ℕ → List ℕ → Bool → Type 0
-AllSolved z a b out after syn r = Outcome z a b (λ f y. Begun (shape z) f a b y (cells (shape z) out)) out after syn r
-
-abbrev pub DataSolved : Sizes → Plan → Plan → List ℕ → List ℕ → List ℕ → Bool → Type 0
-DataSolved z a b out after syn r = Outcome z a b (λ f y. Ready (shape z) f a b y (cells (shape z) out) 0) out after syn r
-
--- One set is solved by its plan, whatever the plan of the other set, which is right as a whole.
-abbrev pub SetSolved : Sizes → ℕ → Plan → List ℕ → List ℕ → List ℕ → Bool → Type 0
-SetSolved z s p out after syn r = (a b : Plan) → p ≡ plan-of a b (set-of s) → Outcome z a b
-    (λ f y. Ready (shape z) f a b y (cells (shape z) out) 0 × RightSet (shape z) y (cells (shape z) out) (other (set-of s)) (track-length (shape z))) out after syn r
-
 -- r says whether a plan names one track at the most.
 pub record SingleTested (sh : Shape) (s : TrackSet) (p : Plan) (r : Bool) : Type 0 where
   pub yes-single : r ≡ true → Single sh s p
   pub not-single : r ≡ false → Single sh s p → ⊥
-
--- r is past m, and `to` at the latest.
-pub record BlockEnd (m to r : ℕ) : Type 0 where
-  pub more : m < r
-  pub within : r ≤ to
-
--- r says whether the four sums at m are 0.
-pub record SumsZero (syn : List ℕ) (l m : ℕ) (r : Bool) : Type 0 where
-  pub yes-zero : r ≡ true → (row : ℕ) → row < 4 → getD syn (row * l + m) 0 ≡ 0
-  pub not-zero : r ≡ false → ((row : ℕ) → row < 4 → getD syn (row * l + m) 0 ≡ 0) → ⊥
-
--- ## The quiet start
-
--- The columns from `from` up to `to` are columns of four rows.
-pub record Columns (z : Sizes) (from to : ℕ) (syn : List ℕ) : Type 0 where
-  pub small : Small z
-  pub size : length syn ≡ 4 * track-length (shape z)
-  pub order : from ≤ to
-  pub inside : to ≤ track-length (shape z)
-
--- r says whether all their syndromes are 0.
-pub record ColumnsZero (syn : List ℕ) (l from to : ℕ) (r : Bool) : Type 0 where
-  pub zero-at : r ≡ true → (row q : ℕ) → row < 4 → from ≤ q → q < to → getD syn (row * l + q) 0 ≡ 0
-  pub not-zero : r ≡ false → ((row q : ℕ) → row < 4 → from ≤ q → q < to → getD syn (row * l + q) 0 ≡ 0) → ⊥
-
--- All syndromes are 0 up to a lag past each position before m.
-pub record Quiet (z : Sizes) (syn : List ℕ) (m : ℕ) : Type 0 where
-  pub within : m ≤ z .positions
-  pub zero-at : (row p q : ℕ) → row < 4 → p < m → q ≤ p + lag (shape z) → getD syn (row * track-length (shape z) + q) 0 ≡ 0

@@ -1,7 +1,6 @@
-// The solver: flagged tracks are made good, position by position, by turning cells over where a syndrome is not 0.
+// The steps of one position, for flags by stretch: the flagged cells of a set are made right by turning over those whose syndrome is not 0.
 use code::Sizes;
 use syndrome::Line;
-ghost use mathlib.Core.Path.{_≡_};
 ghost use Prim.Native.Nat.{_+_, _*_, _<_, _≤_};
 ghost use lib.ListN.{length, getD};
 ghost use Rattle.code.specs.Record.{data-tracks, tracks, track-length};
@@ -10,8 +9,8 @@ ghost use Rattle.code.specs.Flags.{flag-count};
 ghost use Rattle.code.specs.Sizes.{shape, Small};
 ghost use Rattle.syndrome.specs.Syndrome.{set-of, Kept, IsCell, LineOf};
 ghost use Rattle.syndrome.specs.Steps.{IsTrack};
-ghost use Rattle.solver.specs.Solver.{marked, Planned, Fills, Single, Solved};
-ghost use Rattle.solver.specs.Steps.{Settled, ByOwn, ByOther, ByVertical, ByTail, Stepped, Ahead, Advanced, AllSolved, SetSolved, DataSolved, SingleTested, BlockEnd, SumsZero, Columns, ColumnsZero, Quiet};
+ghost use Rattle.solver.specs.Solver.{marked, Planned, Fills};
+ghost use Rattle.solver.specs.Steps.{Settled, ByOwn, ByOther, ByVertical, ByTail, Stepped, Ahead, SingleTested};
 
 // Past every track.
 pub const NONE: usize = 16;
@@ -233,29 +232,6 @@ pub fn step(
     last_at(out, syn, z, s, plan.last, last, m);
 }
 
-// The same where two tracks are named at the most.
-fn step_two(
-    out: &mut [u8],
-    syn: &mut [u8],
-    z: Sizes,
-    s: usize,
-    plan: Plan,
-    low: Line,
-    last: Line,
-    m: usize,
-)
-    requires { ⌜ Kept z (now out) (now syn) ⌝ }
-    requires { ⌜ s < 2 ⌝ }
-    requires { ⌜ m < z .positions ⌝ }
-    requires { ⌜ LineOf z s (plan .low) low ⌝ }
-    requires { ⌜ LineOf z s (plan .last) last ⌝ }
-    requires { ⌜ tracks (shape z) (set-of s) ≤ plan .high ⌝ }
-    ensures { λ _. ⌜ Stepped z s plan m (now (out .entry)) (now (out .exit)) (now (syn .exit)) ⌝ }
-{
-    low_at(out, syn, z, s, plan.low, low, m);
-    last_at(out, syn, z, s, plan.last, last, m);
-}
-
 // Solves a set at a position of the tail.
 pub fn tail_step(out: &mut [u8], syn: &mut [u8], z: Sizes, s: usize, plan: Plan, m: usize)
     requires { ⌜ Kept z (now out) (now syn) ⌝ }
@@ -270,27 +246,6 @@ pub fn tail_step(out: &mut [u8], syn: &mut [u8], z: Sizes, s: usize, plan: Plan,
     by_tail(out, syn, z, s, low, m);
     by_tail(out, syn, z, s, high, m);
     by_tail(out, syn, z, s, last, m);
-}
-
-// Are the four sums at m 0?
-fn sums_zero(syn: &[u8], l: usize, m: usize) -> bool
-    requires { ⌜ length (now syn) ≡ 4 * l ⌝ }
-    requires { ⌜ m < l ⌝ }
-    ensures { λ r. ⌜ SumsZero (now (syn .entry)) l m r ⌝ }
-{
-    let most = syn[m] | syn[l + m] | syn[2 * l + m] | syn[3 * l + m];
-    if most == 0 {
-        return true;
-    }
-    false
-}
-
-// The position after m, of at most 2048. The remainder changes nothing: it makes the compiler use m itself as the index in each row.
-fn next(m: usize) -> usize
-    requires { ⌜ m < 2048 ⌝ }
-    ensures { λ r. ⌜ r ≡ m + 1 ⌝ }
-{
-    (m + 1) % 4096
 }
 
 // Makes one track of a set right by the verticals, at the positions of the data from `from` up to `to`.
@@ -317,58 +272,6 @@ pub fn verticals(
     }
 }
 
-// The same at every position.
-fn ahead(out: &mut [u8], syn: &mut [u8], z: Sizes, s: usize, t: usize)
-    requires { ⌜ Kept z (now out) (now syn) ⌝ }
-    requires { ⌜ s < 2 ⌝ }
-    ensures { λ _. ⌜ Ahead z s t 0 (track-length (shape z)) (now (out .entry)) (now (out .exit)) (now (syn .exit)) ⌝ }
-{
-    let positions = z.positions;
-    let l = positions + (z.t1 + z.t2 + 1);
-    verticals(out, syn, z, s, t, 0, positions);
-    let mut p = positions;
-    while p < l {
-        by_vertical(out, syn, z, s, t, p);
-        p += 1;
-    }
-}
-
-// Are all syndromes of the columns from `from` up to `to` 0?
-fn columns_zero(syn: &[u8], z: Sizes, from: usize, to: usize) -> bool
-    requires { ⌜ Columns z from to (now syn) ⌝ }
-    ensures { λ r. ⌜ ColumnsZero (now (syn .entry)) (track-length (shape z)) from to r ⌝ }
-{
-    let l = z.positions + (z.t1 + z.t2 + 1);
-    if !track::all_zero(&syn[from..to]) {
-        return false;
-    }
-    if !track::all_zero(&syn[l + from..l + to]) {
-        return false;
-    }
-    if !track::all_zero(&syn[2 * l + from..2 * l + to]) {
-        return false;
-    }
-    track::all_zero(&syn[3 * l + from..3 * l + to])
-}
-
-// A position before which nothing is to be done: all syndromes are 0, up to a lag past each position.
-fn quiet(syn: &[u8], z: Sizes) -> usize
-    requires { ⌜ Small z ⌝ }
-    requires { ⌜ length (now syn) ≡ 4 * track-length (shape z) ⌝ }
-    ensures { λ r. ⌜ Quiet z (now (syn .entry)) r ⌝ }
-{
-    let positions = z.positions;
-    let lag = z.t1 + z.t2 + 1;
-    let mut m = 0;
-    while m + 64 <= positions {
-        if !columns_zero(syn, z, m, m + 64 + lag) {
-            return m;
-        }
-        m += 64;
-    }
-    m
-}
-
 // Does a plan name one track at the most?
 pub fn is_single(z: Sizes, s: usize, plan: Plan) -> bool
     requires { ⌜ Small z ⌝ }
@@ -382,137 +285,4 @@ pub fn is_single(z: Sizes, s: usize, plan: Plan) -> bool
         return false;
     }
     true
-}
-
-// Where the block of positions that begins at m ends, `to` at the latest.
-fn block_end(m: usize, to: usize) -> usize
-    requires { ⌜ m < to ⌝ }
-    ensures { λ r. ⌜ BlockEnd m to r ⌝ }
-{
-    if to - m < 128 {
-        return to;
-    }
-    m + 128
-}
-
-// The data where neither set has more than one track to be made right. False: no record fits.
-fn solve_singles(out: &mut [u8], syn: &mut [u8], z: Sizes, a: Plan, b: Plan) -> bool
-    requires { ⌜ Kept z (now out) (now syn) ⌝ }
-    requires { ⌜ Single (shape z) (set-of 0) a ⌝ }
-    requires { ⌜ Single (shape z) (set-of 1) b ⌝ }
-    ensures { λ r. ⌜ DataSolved z a b (now (out .entry)) (now (out .exit)) (now (syn .exit)) r ⌝ }
-{
-    let positions = z.positions;
-    let mut m = quiet(syn, z);
-    while m < positions {
-        let end = block_end(m, positions);
-        verticals(out, syn, z, 0, a.last, m, end);
-        verticals(out, syn, z, 1, b.last, m, end);
-        if !columns_zero(syn, z, m, end) {
-            return false;
-        }
-        m = end;
-    }
-    true
-}
-
-// The data of one set, where the other set is right.
-fn solve_set(out: &mut [u8], syn: &mut [u8], z: Sizes, s: usize, plan: Plan) -> bool
-    requires { ⌜ Kept z (now out) (now syn) ⌝ }
-    requires { ⌜ s < 2 ⌝ }
-    ensures { λ r. ⌜ SetSolved z s plan (now (out .entry)) (now (out .exit)) (now (syn .exit)) r ⌝ }
-{
-    let positions = z.positions;
-    let l = positions + (z.t1 + z.t2 + 1);
-    let low = syndrome::find_line(z, s, plan.low);
-    let high = syndrome::find_line(z, s, plan.high);
-    let last = syndrome::find_line(z, s, plan.last);
-    let mut m = quiet(syn, z);
-    while m < positions {
-        step(out, syn, z, s, plan, low, high, last, m);
-        if !sums_zero(syn, l, m) {
-            return false;
-        }
-        m = next(m);
-    }
-    true
-}
-
-// The data of both sets, of which neither has three tracks to be made right.
-fn solve_pairs(out: &mut [u8], syn: &mut [u8], z: Sizes, a: Plan, b: Plan) -> bool
-    requires { ⌜ Kept z (now out) (now syn) ⌝ }
-    requires { ⌜ tracks (shape z) (set-of 0) ≤ a .high ⌝ }
-    requires { ⌜ tracks (shape z) (set-of 1) ≤ b .high ⌝ }
-    ensures { λ r. ⌜ DataSolved z a b (now (out .entry)) (now (out .exit)) (now (syn .exit)) r ⌝ }
-{
-    let positions = z.positions;
-    let l = positions + (z.t1 + z.t2 + 1);
-    let a_low = syndrome::find_line(z, 0, a.low);
-    let a_last = syndrome::find_line(z, 0, a.last);
-    let b_low = syndrome::find_line(z, 1, b.low);
-    let b_last = syndrome::find_line(z, 1, b.last);
-    let mut m = quiet(syn, z);
-    while m < positions {
-        step_two(out, syn, z, 0, a, a_low, a_last, m);
-        step_two(out, syn, z, 1, b, b_low, b_last, m);
-        if !sums_zero(syn, l, m) {
-            return false;
-        }
-        m = next(m);
-    }
-    true
-}
-
-// The positions of the data. False: no record fits.
-fn solve_data(out: &mut [u8], syn: &mut [u8], z: Sizes, a: Plan, b: Plan) -> bool
-    requires { ⌜ Kept z (now out) (now syn) ⌝ }
-    ensures { λ r. ⌜ AllSolved z a b (now (out .entry)) (now (out .exit)) (now (syn .exit)) r ⌝ }
-{
-    if is_single(z, 0, a) {
-        if is_single(z, 1, b) {
-            return solve_singles(out, syn, z, a, b);
-        }
-        // Beside more tracks of a set, the one of the other set is made right first.
-        ahead(out, syn, z, 0, a.last);
-        return solve_set(out, syn, z, 1, b);
-    }
-    if is_single(z, 1, b) {
-        ahead(out, syn, z, 1, b.last);
-        return solve_set(out, syn, z, 0, a);
-    }
-    // Three tracks beside more than one are too many.
-    if a.high < z.t1 + 2 {
-        return false;
-    }
-    if b.high < z.t2 + 2 {
-        return false;
-    }
-    solve_pairs(out, syn, z, a, b)
-}
-
-// The positions of the tail.
-fn solve_tail(out: &mut [u8], syn: &mut [u8], z: Sizes, a: Plan, b: Plan)
-    requires { ⌜ Kept z (now out) (now syn) ⌝ }
-    ensures { λ _. ⌜ Advanced z a b (z .positions) (track-length (shape z)) (now (out .entry)) (now (out .exit)) (now (syn .exit)) ⌝ }
-{
-    let positions = z.positions;
-    let l = positions + (z.t1 + z.t2 + 1);
-    let mut m = positions;
-    while m < l {
-        tail_step(out, syn, z, 0, a, m);
-        tail_step(out, syn, z, 1, b, m);
-        m += 1;
-    }
-}
-
-// Makes the named tracks of a working copy right. True: the copy is now a good record. False: there is none.
-pub fn solve(out: &mut [u8], syn: &mut [u8], z: Sizes, a: Plan, b: Plan) -> bool
-    requires { ⌜ Kept z (now out) (now syn) ⌝ }
-    ensures { λ r. ⌜ Solved z a b (now (out .entry)) (now (out .exit)) (now (syn .exit)) r ⌝ }
-{
-    if !solve_data(out, syn, z, a, b) {
-        return false;
-    }
-    solve_tail(out, syn, z, a, b);
-    syndrome::is_good(out, syn, z)
 }

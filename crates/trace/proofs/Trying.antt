@@ -1,17 +1,15 @@
 -- What comes of a choice of extras that is tried.
-use mathlib.Core.Path.{_≡_, refl, sym, ap, subst, _∙_}
-use mathlib.Core.Logic.{_≢_, by-cases}
+use mathlib.Core.Path.{_≡_, refl, sym, ap, _∙_}
+use mathlib.Core.Logic.{_≢_}
 use mathlib.Core.Bool.{Bool, true, false, true≢false, _||_}
 use mathlib.Core.List.{List}
-use Prim.Native.Nat.{ℕ, suc, _+_, _<_, _≤_}
-use native.Mathlib.Decide.{ℕ-discrete}
+use Prim.Native.Nat.{ℕ, suc, _<_, _≤_}
 use native.Mathlib.Omega.{arith}
-use lib.ListN.{length}
-use Rattle.code.specs.Record.{TrackSet, A, B, Shape, tracks, track-length, Cells, Good}
+use Rattle.code.specs.Record.{TrackSet, A, B, Shape, tracks, track-length}
 use Rattle.code.specs.Image.{cells}
-use Rattle.code.specs.Flags.{TrackFlags, whole, flag-count, AgreeOff, Within}
-use Rattle.code.specs.Reach.{Choice, Allowed, is, with-extras}
-use Rattle.code.specs.Sizes.{shape, Small}
+use Rattle.code.specs.Flags.{TrackFlags, Within}
+use Rattle.code.specs.Reach.{Allowed, is, with-extras}
+use Rattle.code.specs.Sizes.{shape}
 use Rattle.code.specs.declared.Sizes.{Sizes}
 use Rattle.code.specs.declared.Reach.{Reach}
 use Rattle.code.proofs.Codes.{table-room}
@@ -21,15 +19,14 @@ use Rattle.solver.specs.Solver.{marked}
 use Rattle.plans.specs.declared.Three.{Three}
 use Rattle.plans.specs.declared.Form.{Form}
 use Rattle.plans.specs.Plans as plans
-use Rattle.errors.specs.Steps.{Quiet, Fresh, Found}
+use Rattle.errors.specs.Steps.{Fresh, Found}
 use Rattle.mend.specs.Mend.{Added}
 use Rattle.repair.specs.declared.Needs.{Needs}
 use Rattle.repair.specs.Steps.{need-of, Prepared, errors-in}
 use Rattle.repair.proofs.Working.{tails-none, found-none, found-good, found-agree}
 use Rattle.repair.proofs.Making.{found-as}
-use Rattle.trace.specs.declared.Trial.{Trial}
 use Rattle.trace.specs.Steps.{extra-at, choice-at, extra-in, IsChoice, Explains, Fits, Traceable, Fitting, Tried}
-use Rattle.trace.proofs.Choices.{number-of, is-track, is-other}
+use Rattle.trace.proofs.Choices.{is-track, is-other}
 use Rattle.trace.proofs.Flagging.{allowed-within}
 
 -- ## The flags with the extras of a choice
