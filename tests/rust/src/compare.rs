@@ -32,12 +32,14 @@ pub const CALLS: [(&str, &[usize]); 11] = [
 pub type Class = fn(&mut Random, u64, &mut Tally);
 
 /// The classes, by the name that their generator has too.
-pub const CLASSES: [(&str, Class); 39] = [
+pub const CLASSES: [(&str, Class); 41] = [
     ("examples", examples),
     ("every_block_count", every_block_count),
     ("every_payload_bit", every_payload_bit),
     ("every_wrong_cell", every_wrong_cell),
     ("damaged_records", damaged_records),
+    ("short_records", short_records),
+    ("word_ends", word_ends),
     ("long_records", long_records),
     ("noise", noise),
     ("all_flag_words", all_flag_words),
@@ -190,6 +192,20 @@ impl Tally {
             self.compare(random, Call::Read, blocks, &found[2].1, payload_room);
         }
         found
+    }
+
+    /// A record with up to four tracks damaged at the ends of words of 64 cells and in the tail, decoded.
+    fn damaged_at_ends(&mut self, random: &mut Random, blocks: u32) {
+        let shape = Shape::base(blocks);
+        let mut image = self.record(random, blocks);
+        let tracks = some_tracks(random, shape, 4);
+        for g in (0..18).filter(|g| tracks >> g & 1 == 1) {
+            for m in (0..shape.length()).filter(|m| (m + 16) % 64 < 32 || m + 31 > shape.length()) {
+                image[g * shape.length() + m] ^= random.below(2) as u8;
+            }
+        }
+        let flags = some_flags(random, shape, tracks);
+        self.decode(random, blocks, flags, &image);
     }
 
     /// A record with up to so many damaged tracks, decoded.
@@ -633,6 +649,30 @@ pub fn damaged_records(random: &mut Random, rounds: u64, tally: &mut Tally) {
     for _ in 0..rounds {
         let blocks = few_blocks(random);
         tally.damaged(random, blocks, 5);
+    }
+}
+
+/// Records of up to three blocks, ten times as many, where the ends of words and the tails meet: with up to five damaged
+/// tracks, or damaged at the ends alone, and all kinds of flags.
+pub fn short_records(random: &mut Random, rounds: u64, tally: &mut Tally) {
+    for _ in 0..10 * rounds {
+        let blocks = random.below(4) as u32;
+        match random.below(4) {
+            0 => tally.damaged_at_ends(random, blocks),
+            _ => tally.damaged(random, blocks, 5),
+        }
+    }
+}
+
+/// Records whose data or tracks end near the end of a word of 64 cells, damaged at the ends of words and in the tail.
+pub fn word_ends(random: &mut Random, rounds: u64, tally: &mut Tally) {
+    for _ in 0..rounds {
+        let words = match random.below(16) {
+            0 => 32,
+            _ => 1 + random.below(4) as u32,
+        };
+        let blocks = (8 * words - 3 + random.below(5) as u32).min(256);
+        tally.damaged_at_ends(random, blocks);
     }
 }
 

@@ -34,6 +34,16 @@ fn damaged_records() {
 }
 
 #[test]
+fn short_records() {
+    compare("short_records");
+}
+
+#[test]
+fn word_ends() {
+    compare("word_ends");
+}
+
+#[test]
 fn long_records() {
     compare("long_records");
 }
