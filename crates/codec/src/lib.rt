@@ -184,7 +184,18 @@ fn read_data(out: &mut [u8], z: Sizes, image: &[u8], blocks: usize)
     }
 }
 
-// Is an image a good record? One with a lost cell is not.
+// Is an image of bits a good record? By way of four rows of bytes.
+fn good_by(image: &[u8], z: Sizes, syn: &mut [u8]) -> bool
+    requires { ⌜ Small z ⌝ }
+    requires { ⌜ Image (shape z) (now image) ⌝ }
+    requires { ⌜ length (now syn) ≡ 4 * track-length (shape z) ⌝ }
+    ensures { λ r. ⌜ Tested (shape z) (cells (shape z) (now (image .entry))) r ⌝ }
+{
+    sums::syndromes(image, z, syn);
+    syndrome::is_good(image, syn, z)
+}
+
+// Is an image a good record? One with a lost cell is not. A short record takes less room.
 fn image_good(image: &[u8], z: Sizes, lost: bool) -> bool
     requires { ⌜ Small z ⌝ }
     requires { ⌜ length (now image) ≡ image-size (shape z) ⌝ }
@@ -195,10 +206,13 @@ fn image_good(image: &[u8], z: Sizes, lost: bool) -> bool
         return false;
     }
     let l = z.positions + (z.t1 + z.t2 + 1);
-    let mut room = [0u8; 8252];
-    let sums = &mut room[..4 * l];
-    sums::syndromes(image, z, sums);
-    syndrome::is_good(image, sums, z)
+    if l <= 143 {
+        let mut room = [0u8; 572];
+        good_by(image, z, &mut room[..4 * l])
+    } else {
+        let mut room = [0u8; 8252];
+        good_by(image, z, &mut room[..4 * l])
+    }
 }
 
 // Reader: the payload of a good record goes to the start of the output.

@@ -16,7 +16,7 @@ ghost use Rattle.code.specs.Calls.{early-checks, mended, Repairs};
 ghost use Rattle.code.specs.Contracts.{Repaired};
 ghost use Rattle.code.specs.Answers.{extra-of, result-of};
 ghost use Rattle.code.specs.Sizes.{shape, Small};
-ghost use Rattle.track.specs.Track.{known};
+ghost use Rattle.track.specs.Track.{known, Copied};
 ghost use Rattle.checks.specs.First.{FirstAnswer};
 ghost use Rattle.checks.specs.Lost.{LostTold};
 ghost use Rattle.syndrome.specs.Syndrome.{Image};
@@ -108,6 +108,14 @@ pub fn prepare(z: Sizes, marks: &[u8], image: &[u8], out: &mut [u8], rows: &mut 
     Needs { a, b }
 }
 
+// Makes the output a copy of the image, which 7 leaves.
+pub fn put_back(image: &[u8], out: &mut [u8])
+    requires { ⌜ length (now image) ≤ length (now out) ⌝ }
+    ensures { λ _. ⌜ Copied (now (image .entry)) (now (out .entry)) (now (out .exit)) ⌝ }
+{
+    track::copy_into(out, image);
+}
+
 // The answer 0 with what was changed, where marked tracks alone were, and with these extras.
 pub fn answer_of(z: Sizes, marks: &[u8], image: &[u8], out: &[u8], a: Extra, b: Extra) -> Answer
     requires { ⌜ OnlyMarked z (now marks) (now image) (now out) ⌝ }
@@ -164,7 +172,7 @@ fn repair_record(z: Sizes, marks: [u8; 18], image: &[u8], out: &mut [u8]) -> Ans
     if make_good(z, need, p, out, &rows) {
         return answer_of(z, &marks, image, out, Extra::None, Extra::None);
     }
-    track::copy_into(out, image);
+    put_back(image, out);
     plain_answer(7, 0)
 }
 

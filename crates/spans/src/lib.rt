@@ -7,7 +7,7 @@ use code::Span;
 use code::plain_answer;
 ghost use mathlib.Core.Path.{_≡_};
 ghost use mathlib.Core.List.{List, [], _∷_};
-ghost use Prim.Native.Nat.{_<_};
+ghost use Prim.Native.Nat.{_*_, _<_};
 ghost use lib.ListN.{length, set};
 ghost use Rattle.code.specs.Record.{base, track-length};
 ghost use Rattle.code.specs.Image.{image-size, cells};
@@ -83,15 +83,20 @@ fn answer_of(z: Sizes, words: &[u32], image: &[u8], out: &[u8]) -> Answer
     }
 }
 
-// Repairs the flagged cells into the output, of the image's size.
-fn repair_cells(z: Sizes, words: &[u32], near: &[u32], image: &[u8], out: &mut [u8]) -> Answer
+// Repairs the flagged cells into the output, of the image's size, by way of four rows of bytes.
+fn repair_by(
+    z: Sizes,
+    words: &[u32],
+    near: &[u32],
+    image: &[u8],
+    out: &mut [u8],
+    syn: &mut [u8],
+) -> Answer
     requires { ⌜ Given z (now words) (now near) (now image) (now out) ⌝ }
+    requires { ⌜ length (now syn) ≡ 4 * track-length (shape z) ⌝ }
     ensures { λ r. ⌜ Repairs (shape z) (word-cells (shape z) (now (words .entry))) (now (image .entry)) (now (out .entry)) (result-of r) (now (out .exit)) ⌝ }
 {
-    let l = z.positions + (z.t1 + z.t2 + 1);
     track::copy_known(out, image);
-    let mut room = [0u8; 8252];
-    let syn = &mut room[..4 * l];
     sums::syndromes(out, z, syn);
     if stretches::solve(out, syn, z, words, near) {
         return answer_of(z, words, image, out);
@@ -100,7 +105,46 @@ fn repair_cells(z: Sizes, words: &[u32], near: &[u32], image: &[u8], out: &mut [
     plain_answer(7, 0)
 }
 
-// Repairs by a table, of an image and an output of its size.
+// The same, with room made for the rows. A short record takes less.
+fn repair_cells(z: Sizes, words: &[u32], near: &[u32], image: &[u8], out: &mut [u8]) -> Answer
+    requires { ⌜ Given z (now words) (now near) (now image) (now out) ⌝ }
+    ensures { λ r. ⌜ Repairs (shape z) (word-cells (shape z) (now (words .entry))) (now (image .entry)) (now (out .entry)) (result-of r) (now (out .exit)) ⌝ }
+{
+    let l = z.positions + (z.t1 + z.t2 + 1);
+    if l <= 143 {
+        let mut room = [0u8; 572];
+        repair_by(z, words, near, image, out, &mut room[..4 * l])
+    } else {
+        let mut room = [0u8; 8252];
+        repair_by(z, words, near, image, out, &mut room[..4 * l])
+    }
+}
+
+// Repairs by a table, of an image and an output of its size, by way of words for the flags and for their windows.
+fn repair_in(
+    z: Sizes,
+    pairs: &[[u32; 2]],
+    image: &[u8],
+    lost: bool,
+    out: &mut [u8],
+    words: &mut [u32],
+    near: &mut [u32],
+) -> Answer
+    requires { ⌜ Tabled z (pairs-table (now pairs)) (now image) ⌝ }
+    requires { ⌜ LostTold (now image) lost ⌝ }
+    requires { ⌜ length (now out) ≡ image-size (shape z) ⌝ }
+    requires { ⌜ Blank (track-length (shape z)) (now words) ⌝ }
+    requires { ⌜ length (now near) ≡ track-length (shape z) ⌝ }
+    ensures { λ r. ⌜ CellsRepaired (shape z) (span-flags (shape z) (pairs-table (now (pairs .entry))) (now (image .entry))) (now (image .entry)) (now (out .entry)) (result-of r) (now (out .exit)) ⌝ }
+{
+    flag_cells(z, pairs, image, lost, words);
+    if !windows::find_windows(z, words, near) {
+        return plain_answer(6, 0);
+    }
+    repair_cells(z, words, near, image, out)
+}
+
+// The same, with room made for the words. A short record takes less.
 fn repair_record(z: Sizes, pairs: &[[u32; 2]], image: &[u8], lost: bool, out: &mut [u8]) -> Answer
     requires { ⌜ Tabled z (pairs-table (now pairs)) (now image) ⌝ }
     requires { ⌜ LostTold (now image) lost ⌝ }
@@ -108,15 +152,31 @@ fn repair_record(z: Sizes, pairs: &[[u32; 2]], image: &[u8], lost: bool, out: &m
     ensures { λ r. ⌜ CellsRepaired (shape z) (span-flags (shape z) (pairs-table (now (pairs .entry))) (now (image .entry))) (now (image .entry)) (now (out .entry)) (result-of r) (now (out .exit)) ⌝ }
 {
     let l = z.positions + (z.t1 + z.t2 + 1);
-    let mut flag_room = [0u32; 2063];
-    let mut window_room = [0u32; 2063];
-    let words = &mut flag_room[..l];
-    let near = &mut window_room[..l];
-    flag_cells(z, pairs, image, lost, words);
-    if !windows::find_windows(z, words, near) {
-        return plain_answer(6, 0);
+    if l <= 143 {
+        let mut flag_room = [0u32; 143];
+        let mut window_room = [0u32; 143];
+        repair_in(
+            z,
+            pairs,
+            image,
+            lost,
+            out,
+            &mut flag_room[..l],
+            &mut window_room[..l],
+        )
+    } else {
+        let mut flag_room = [0u32; 2063];
+        let mut window_room = [0u32; 2063];
+        repair_in(
+            z,
+            pairs,
+            image,
+            lost,
+            out,
+            &mut flag_room[..l],
+            &mut window_room[..l],
+        )
     }
-    repair_cells(z, words, near, image, out)
 }
 
 // ---- The call

@@ -266,7 +266,7 @@ fn trace_record(z: Sizes, w: Reach, marks: [u8; 18], image: &[u8], out: &mut [u8
     let start = mend::find_start(&rows, l);
     let hit = search(z, w, marks, x, y, need, &rows, &mut found, start);
     if !hit.found {
-        track::copy_into(out, image);
+        repair::put_back(image, out);
         return plain_answer(7, 0);
     }
     let form = hit.form;

@@ -1,10 +1,11 @@
--- `image_good` meets its contract: the syndromes are put into the front of an array. A lost cell is no bit.
+-- `image_good` meets its contract: either room is large enough for four rows. A lost cell is no bit.
 use borrow.Author.Needs.{needs}
 use denote.Ref.{now}
 use mathlib.Core.Path.{sym}
 use mathlib.Core.Bool.{true≢false}
+use native.Mathlib.Omega.{arith}
+use lib.Seq.{length-take-le}
 use Rattle.code.proofs.RoundTrip.{good-bits}
-use Rattle.track.proofs.Rows.{front}
 use Rattle.codec.proofs.image_good.Statement.{statement}
 use Rattle.codec.proofs.image_good.Tie as tie
 
@@ -31,22 +32,35 @@ mul-room c = search needs
 array-borrow-prefix-room : tie.Need-array-borrow-prefix-room
 array-borrow-prefix-room c = search needs
 
-slice-aggregate-sums : tie.Need-slice-aggregate-sums
-slice-aggregate-sums c = sym (front 8252 _ (search needs))
+slice-aggregate-good-by : tie.Need-slice-aggregate-good-by
+slice-aggregate-good-by c = sym (length-take-le _ _ (omega arith))
 
-syndromes-requires : tie.Need-syndromes-requires
-syndromes-requires c κs =
+good-by-requires : tie.Need-good-by-requires
+good-by-requires c κs =
     let s = c .before .before .before .before in
     let p = s .before .before .pre in
-    (p .0, (record { size = p .1 .0; bits = p .1 .1 .bits (s .if1 .left) }, front 8252 _ (search needs)))
+    (p .0, (record { size = p .1 .0; bits = p .1 .1 .bits (s .if1 .left) }, length-take-le _ _ (omega arith)))
 
-is-good-requires : tie.Need-is-good-requires
-is-good-requires c κs =
-    let e = c .before .before .before .before .before .before .before .before in
-    search (needs, e .before .before .pre .1 .1 .bits (e .if1 .left))
+mul-room-2 : tie.Need-mul-room-2
+mul-room-2 c = search needs
+
+array-borrow-prefix-room-2 : tie.Need-array-borrow-prefix-room-2
+array-borrow-prefix-room-2 c = search needs
+
+slice-aggregate-good-by-2 : tie.Need-slice-aggregate-good-by-2
+slice-aggregate-good-by-2 c = sym (length-take-le _ _ (omega arith))
+
+good-by-requires-2 : tie.Need-good-by-requires-2
+good-by-requires-2 c κs =
+    let s = c .before .before .before .before in
+    let p = s .before .before .pre in
+    (p .0, (record { size = p .1 .0; bits = p .1 .1 .bits (s .if1 .left) }, length-take-le _ _ (omega (arith, p .0))))
 
 returns-2 : tie.Need-returns-2
 returns-2 c = search needs
+
+returns-3 : tie.Need-returns-3
+returns-3 c = search needs
 
 pub image-good-spec : {M : Type 1} → statement M
 image-good-spec =
@@ -58,7 +72,11 @@ image-good-spec =
     add-l-3
     mul-room
     array-borrow-prefix-room
-    slice-aggregate-sums
-    syndromes-requires
-    is-good-requires
-    returns-2)
+    slice-aggregate-good-by
+    good-by-requires
+    mul-room-2
+    array-borrow-prefix-room-2
+    slice-aggregate-good-by-2
+    good-by-requires-2
+    returns-2
+    returns-3)

@@ -62,14 +62,14 @@ same-length c = c .before .before .before .before .before .before .make-good .en
 returns : tie.Need-returns
 returns c = repair-found _ _ _ _ (c .before .before .before .before .before .before .before .before .before .before .before .before .before .before .before .before .before .before .before .before .before .before .before .before .before .pre) _ _ _ (c .before .before .before .before .before .before .before .before .before .before .before .before .before .before .before .before .before .prepare .ensures) _ (c .before .before .before .before .before .before .before .before .before .form-of .ensures .fits _ (given-within _ _ _ _ (c .before .before .before .before .before .before .before .before .before .before .before .before .before .before .before .before .before .before .before .before .before .before .before .before .before .pre)) (c .before .before .before .before .before .before .before .before .before .before .before .before .find-three .ensures) (c .before .before .before .before .before .before .before .before .before .before .find-three2 .ensures)) _ _ (c .before .before .before .before .before .before .make-good .ensures) (c .before .before .before .if1 .taken) _ (c .answer-of .ensures)
 
-copy-into-requires : tie.Need-copy-into-requires
-copy-into-requires c κs = omega (arith, c .before .before .before .before .make-good .ensures .size, c .before .before .before .before .before .before .before .before .before .before .before .before .before .before .before .prepare .ensures .copy .size, c .before .before .before .before .before .before .before .before .before .before .before .before .before .before .before .before .before .before .before .before .before .before .before .pre .image-is .size)
+put-back-requires : tie.Need-put-back-requires
+put-back-requires c κs = omega (arith, c .before .before .before .before .make-good .ensures .size, c .before .before .before .before .before .before .before .before .before .before .before .before .before .before .before .prepare .ensures .copy .size, c .before .before .before .before .before .before .before .before .before .before .before .before .before .before .before .before .before .before .before .before .before .before .before .pre .image-is .size)
 
 plain-answer-requires : tie.Need-plain-answer-requires
 plain-answer-requires c κs = search needs
 
 same-length-2 : tie.Need-same-length-2
-same-length-2 c = c .before .before .before .copy-into .ensures .size ∙ c .before .before .before .before .before .before .before .before .make-good .ensures .size ∙ c .before .before .before .before .before .before .before .before .before .before .before .before .before .before .before .before .before .before .before .prepare .ensures .copy .size ∙ sym (c .before .before .before .before .before .before .before .before .before .before .before .before .before .before .before .before .before .before .before .before .before .before .before .before .before .before .before .pre .out-has)
+same-length-2 c = c .before .before .before .put-back .ensures .size ∙ c .before .before .before .before .before .before .before .before .make-good .ensures .size ∙ c .before .before .before .before .before .before .before .before .before .before .before .before .before .before .before .before .before .before .before .prepare .ensures .copy .size ∙ sym (c .before .before .before .before .before .before .before .before .before .before .before .before .before .before .before .before .before .before .before .before .before .before .before .before .before .before .before .pre .out-has)
 
 returns-2 : tie.Need-returns-2
 returns-2 c =
@@ -77,7 +77,7 @@ returns-2 c =
     let w = c .before .before .before .before .before .before .before .before .before .before .before .before .before .before .before .before .before .before .before .prepare .ensures in
     let m = c .before .before .before .before .before .before .before .before .make-good .ensures in
     repair-none _ _ _ _ g _ _ _ w _ (c .before .before .before .before .before .before .before .before .before .before .before .form-of .ensures .fits _ (given-within _ _ _ _ (c .before .before .before .before .before .before .before .before .before .before .before .before .before .before .before .before .before .before .before .before .before .before .before .before .before .before .before .pre)) (c .before .before .before .before .before .before .before .before .before .before .before .before .before .before .find-three .ensures) (c .before .before .before .before .before .before .before .before .before .before .before .before .find-three2 .ensures)) _ _ m (c .before .before .before .before .before .if1 .left) _
-    (copied-all _ _ _ (c .before .before .before .copy-into .ensures) (g .image-is .size ∙ sym (m .size ∙ w .copy .size))) _ (c .plain-answer .ensures)
+    (copied-all _ _ _ (c .before .before .before .put-back .ensures) (g .image-is .size ∙ sym (m .size ∙ w .copy .size))) _ (c .plain-answer .ensures)
 
 pub repair-record-spec : {M : Type 1} → statement M
 repair-record-spec =
@@ -100,7 +100,7 @@ repair-record-spec =
     answer-of-requires
     same-length
     returns
-    copy-into-requires
+    put-back-requires
     plain-answer-requires
     same-length-2
     returns-2)

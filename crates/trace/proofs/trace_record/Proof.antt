@@ -70,21 +70,21 @@ search-requires c κs =
       blank-fresh _,
     )
 
-copy-into-requires : tie.Need-copy-into-requires
-copy-into-requires c κs = omega (arith, c .before .before .before .before .before .before .before .before .before .before .before .before .before .before .before .before .prepare .ensures .copy .size, c .before .before .before .before .before .before .before .before .before .before .before .before .before .before .before .before .before .before .before .before .before .before .before .before .pre .0 .image-is .size)
+put-back-requires : tie.Need-put-back-requires
+put-back-requires c κs = omega (arith, c .before .before .before .before .before .before .before .before .before .before .before .before .before .before .before .before .prepare .ensures .copy .size, c .before .before .before .before .before .before .before .before .before .before .before .before .before .before .before .before .before .before .before .before .before .before .before .before .pre .0 .image-is .size)
 
 plain-answer-requires : tie.Need-plain-answer-requires
 plain-answer-requires c κs = search needs
 
 same-length : tie.Need-same-length
-same-length c = c .before .before .before .copy-into .ensures .size ∙ c .before .before .before .before .before .before .before .before .before .before .before .before .before .before .before .before .before .before .before .before .prepare .ensures .copy .size ∙ sym (c .before .before .before .before .before .before .before .before .before .before .before .before .before .before .before .before .before .before .before .before .before .before .before .before .before .before .before .before .pre .0 .out-has)
+same-length c = c .before .before .before .put-back .ensures .size ∙ c .before .before .before .before .before .before .before .before .before .before .before .before .before .before .before .before .before .before .before .before .prepare .ensures .copy .size ∙ sym (c .before .before .before .before .before .before .before .before .before .before .before .before .before .before .before .before .before .before .before .before .before .before .before .before .before .before .before .before .pre .0 .out-has)
 
 returns : tie.Need-returns
 returns c =
     let g = c .before .before .before .before .before .before .before .before .before .before .before .before .before .before .before .before .before .before .before .before .before .before .before .before .before .before .before .before .pre .0 in
     let w = c .before .before .before .before .before .before .before .before .before .before .before .before .before .before .before .before .before .before .before .before .prepare .ensures in
     trace-none _ _ _ _ g _ _ _ _ w _ _ (c .before .before .before .before .before .before .before .before .search .ensures) (not-true _ (c .before .before .before .before .before .if1 .taken)) _
-    (copied-all _ _ _ (c .before .before .before .copy-into .ensures) (g .image-is .size ∙ sym (w .copy .size))) _ (c .plain-answer .ensures)
+    (copied-all _ _ _ (c .before .before .before .put-back .ensures) (g .image-is .size ∙ sym (w .copy .size))) _ (c .plain-answer .ensures)
 
 slice-aggregate-add-errors : tie.Need-slice-aggregate-add-errors
 slice-aggregate-add-errors c = search needs
@@ -131,7 +131,7 @@ trace-record-spec =
     slice-aggregate-search
     slice-aggregate-search-2
     search-requires
-    copy-into-requires
+    put-back-requires
     plain-answer-requires
     same-length
     returns
