@@ -58,7 +58,7 @@ module _ (z : Sizes) (words near image out : List ℕ) (given : Given z words ne
     })
 
     -- Answer 7: the image is copied over the output.
-    pub back : (last : List ℕ) → Copied image after last → last ≡ image
+    back : (last : List ℕ) → Copied image after last → last ≡ image
     back last d = copied-all image after last d (given .image-is .size ∙ sym (w .kept .image .size))
 
     pub none-found : r ≡ false → (last : List ℕ) → Copied image after last → (answer : Result) → answer ≡ plain 7 0 → Repairs sh flag image out answer last

@@ -6,7 +6,6 @@ use Prim.Native.Nat.{ℕ, zero, suc, _-_, _<_}
 use native.Mathlib.Omega.{arith}
 use borrow.Author.Tests.{eqb-true}
 use lib.ListN.{length, getD}
-use lib.Seq.{ext-getD}
 use Rattle.code.specs.Record.{TrackSet, Shape, tracks, track-length, Cells}
 use Rattle.code.specs.Image.{cells}
 use Rattle.code.specs.Lost.{read-values, is-lost}
@@ -43,10 +42,6 @@ known-at (x ∷ xs) (suc i) = known-at xs i
 
 pub known-bits : (xs : List ℕ) → Readings xs → Bits (known xs)
 known-bits xs r = record { bit = λ i. rw (known-at xs i) (known-cell-bit _ (r .reading i)) }
-
--- A list of bits is its own working copy.
-pub known-same : (xs : List ℕ) → ((i : ℕ) → getD xs i 0 < 2) → known xs ≡ xs
-known-same xs bits = ext-getD 0 (known xs) xs (length-known xs) (λ i h. known-at xs i ∙ cell-known _ (bit-known _ (bits i)))
 
 -- Flags by cells that flag every lost cell of an image. Off them a working copy is the image.
 abbrev pub LostCovered : Shape → CellFlags → List ℕ → Type 0
