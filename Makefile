@@ -2,7 +2,7 @@
 # make demo       repairs damaged samples and reads a cartridge file, and shows what was done
 # make test       everything that must pass: proofs, must-fail edits, Rust and C tests
 # make compare    the library beside the second decoder on random calls: AXP_ROUNDS=2400 AXP_SEED=1
-# make bench      the library beside plain C of the same algorithm; the plot goes to docs/bench.svg
+# make bench      the library beside plain C, position by position and by closed forms; the plot goes to docs/bench.svg
 # make install    PREFIX=/usr/local DESTDIR=
 # make clean
 
@@ -88,11 +88,16 @@ compare: build/libaxp.a
 # ISA-L is measured too where its header is installed (Debian: libisal-dev).
 ISAL := $(shell printf '\043include <isa-l/erasure_code.h>\n' | $(CC) -E -x c - >/dev/null 2>&1 && echo '-DWITH_ISAL -lisal')
 
-build/bench: bench/bench.c bench/plain.c bench/plain.h include/axp.h build/libaxp.a
+build/bench: bench/bench.c bench/plain.c bench/closed.h bench/plain.h include/axp.h build/libaxp.a
 	$(CC) -std=c11 -O3 -Wall -Wextra -Werror -Iinclude -Ibench -o $@ bench/bench.c bench/plain.c build/libaxp.a $(ISAL)
 
-bench: build/bench
+# The same with repair and tracing by the closed forms in the plain C too.
+build/bench-closed: bench/bench.c bench/plain.c bench/closed.h bench/plain.h include/axp.h build/libaxp.a
+	$(CC) -std=c11 -O3 -Wall -Wextra -Werror -Wno-unused-function -DCLOSED_FORMS -Iinclude -Ibench -o $@ bench/bench.c bench/plain.c build/libaxp.a $(ISAL)
+
+bench: build/bench build/bench-closed
 	build/bench docs/bench.svg
+	build/bench-closed
 
 install: all
 	install -d $(DESTDIR)$(PREFIX)/lib/pkgconfig $(DESTDIR)$(PREFIX)/include $(DESTDIR)$(PREFIX)/bin $(DESTDIR)$(PREFIX)/share/man/man1

@@ -719,6 +719,7 @@ static size_t count_track(const uint8_t *image, const uint8_t *out, size_t l, si
     return count_differing(image + g * l, out + g * l, l);
 }
 
+#ifndef CLOSED_FORMS
 /* Makes the marked tracks of a working copy anew, of which alone any are changed. */
 static void restore(const uint8_t marks[ALL], const uint8_t *restrict image, uint8_t *restrict out, size_t l, bool lost)
 {
@@ -726,6 +727,7 @@ static void restore(const uint8_t marks[ALL], const uint8_t *restrict image, uin
         if (marks[g] == 1)
             copy_known(out + g * l, image + g * l, l, lost);
 }
+#endif
 
 /* The extra that is named: a track that was changed. */
 static uint32_t named(const uint8_t *image, const uint8_t *out, size_t l, size_t first, size_t e)
@@ -752,6 +754,8 @@ static axp_result answer_of(const uint8_t marks[ALL], const uint8_t *image, cons
 }
 
 /* ---- repairer */
+
+#ifndef CLOSED_FORMS
 
 /* Makes the image of a working copy. */
 static void put_back(const uint8_t *restrict image, uint8_t *restrict out, size_t len, bool lost)
@@ -792,6 +796,8 @@ axp_result plain_repair(uint32_t blocks, uint32_t flags, const uint8_t *restrict
     put_back(image, out, image_len, lost);
     return answer(7, 0);
 }
+
+#endif
 
 /* ---- tracers */
 
@@ -840,6 +846,10 @@ static bool allows(struct reach reach, const uint8_t marks[ALL], size_t a, size_
     return is_free(marks, a) && is_free(marks + TRACKS, b);
 }
 
+#ifdef CLOSED_FORMS
+#include "closed.h"
+#else
+
 axp_result plain_trace_within(uint32_t blocks, uint32_t flags, uint32_t ceiling, const uint8_t *restrict image, size_t image_len,
                               uint8_t *restrict out, size_t out_len)
 {
@@ -872,6 +882,8 @@ axp_result plain_trace_within(uint32_t blocks, uint32_t flags, uint32_t ceiling,
     put_back(image, out, image_len, lost);
     return answer(7, 0);
 }
+
+#endif
 
 /* One extra in all. */
 axp_result plain_trace(uint32_t blocks, uint32_t flags, const uint8_t *restrict image, size_t image_len, uint8_t *restrict out,
