@@ -1,5 +1,5 @@
 /*
- * Side by side in one run on the same inputs: the library, plain C with the same loops and, where it was built in, ISA-L's
+ * Side by side in one run on the same inputs: the library, plain C (plain.h says of which loops) and, where it was built in, ISA-L's
  * Reed-Solomon decode (14 + 4) of the same payloads. Each case rotates over many inputs. Before any is timed, every answer and
  * every byte of every output is compared: the library's with those of plain C, and both with what is known of the input. It
  * prints a table, writes a plot, and asserts nothing about time.
