@@ -1,5 +1,6 @@
 pub mod Sums
 pub mod Cell
+pub mod Closings
 pub mod Linear
 pub mod Any
 pub mod Patterns

@@ -6,11 +6,12 @@ ghost use Rattle.code.specs.Reach.{reach-code};
 ghost use Rattle.code.specs.Calls.{plain};
 ghost use Rattle.code.specs.Answers.{result-of};
 
-// The data tracks of set A and of set B, and the data positions.
+// The data tracks of set A and of set B, the data positions, and whether the tail is closed.
 pub struct Sizes {
     pub t1: usize,
     pub t2: usize,
     pub positions: usize,
+    pub closed: bool,
 }
 
 // The code of a flagged tracks in set A and b in set B, a by row and b along it.

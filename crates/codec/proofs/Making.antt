@@ -1,6 +1,7 @@
 -- The record that the encoder makes is the good record of the payload.
 use mathlib.Core.Path.{_≡_, sym, _∙_}
 use mathlib.Core.Logic.{_≢_, by-cases}
+use mathlib.Core.Bool.{true}
 use mathlib.Core.List.{List}
 use Prim.Native.Nat.{ℕ, zero, suc, _+_, _*_, _%_, _<_, _≤_}
 use native.Mathlib.Decide.{ℕ-discrete}
@@ -11,6 +12,8 @@ use Rattle.code.specs.Image.{track-number, cells}
 use Rattle.code.specs.Sizes.{shape}
 use Rattle.code.specs.declared.Sizes.{Sizes}
 use Rattle.code.proofs.Sums.{sum-same}
+use Rattle.code.proofs.Cell.{vertical-within}
+use Rattle.code.proofs.Closings.{is-closed, closed-tracks}
 use Rattle.syndrome.specs.Syndrome.{Image}
 use Rattle.registers.specs.Register.{of-set}
 use Rattle.registers.specs.Steps.{Sevens, DataOf, ChecksOf, Carried}
@@ -106,7 +109,7 @@ module _ (z : Sizes) (n : ℕ) (payload out : List ℕ) (f : Filling (shape z) n
       tail-zero s (suc c) m i h o = filled s c h .rest m (omega arith)
 
   -- With check tracks the record is the payload's good record.
-  module _ (sevens : Sevens sh n) (a b mid after : List ℕ) (c : Carried n payload a b) (p : ChecksPut sh A a out mid) (q : ChecksPut sh B b mid after) where
+  module _ (sevens : Sevens sh n) (closed : z .closed ≡ true) (a b mid after : List ℕ) (c : Carried n payload a b) (p : ChecksPut sh A a out mid) (q : ChecksPut sh B b mid after) where
     pub good-record : GoodRecord sh n payload after
     good-record =
         let d = data-of (sevens .blocks) (cells sh after) (data-stays sh a b out mid after p q) in
@@ -114,8 +117,8 @@ module _ (z : Sizes) (n : ℕ) (payload out : List ℕ) (f : Filling (shape z) n
           good = record {
             bits = λ s t m i h. q .image .bits _;
             diagonals = c .even sh (cells sh after) sevens d (checks-of sh a b out mid after p q);
-            verticals = even-vertical sh a b out mid after p q;
-            tail = λ s t m i h. d .tail s t m i (omega arith);
+            verticals = λ s m h. even-vertical sh a b out mid after p q s m (omega (arith, vertical-within sh));
+            tail = λ s t m i h. d .tail s t m i (omega (arith, closed-tracks sh (is-closed z closed) s));
           };
           carries = d .carries;
         }

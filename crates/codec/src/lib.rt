@@ -3,6 +3,7 @@ use code::Answer;
 use code::Sizes;
 use code::plain_answer;
 ghost use mathlib.Core.Path.{_≡_};
+ghost use mathlib.Core.Bool.{true};
 ghost use Prim.Native.Nat.{ℕ, _+_, _*_, _<_, _≤_};
 ghost use lib.ListN.{length, getD};
 ghost use Rattle.code.specs.Record.{data-tracks, track-length};
@@ -116,10 +117,11 @@ fn write_checks(out: &mut [u8], first: &mut [u8], z: Sizes, s: usize)
     put_track(out, syndrome::track_number(z, s, count + 1), first);
 }
 
-// Writes the good record of a payload, of seven data tracks a set.
+// Writes the good record of a payload, of seven data tracks a set and with a closed tail.
 fn write_record(out: &mut [u8], z: Sizes, payload: &[u8], blocks: usize)
     requires { ⌜ Sized z blocks (now out) (now payload) ⌝ }
     requires { ⌜ Sevens (shape z) blocks ⌝ }
+    requires { ⌜ z .closed ≡ true ⌝ }
     ensures { λ _. ⌜ GoodRecord (shape z) blocks (now (payload .entry)) (now (out .exit)) ⌝ }
 {
     let l = 8 * blocks + 15;
@@ -147,6 +149,7 @@ pub fn encode(blocks: u32, payload: &[u8], out: &mut [u8]) -> Answer
         t1: 7,
         t2: 7,
         positions: 8 * n,
+        closed: true,
     };
     write_record(&mut out[..size], z, payload, n);
     plain_answer(0, 0)
@@ -187,6 +190,7 @@ fn read_data(out: &mut [u8], z: Sizes, image: &[u8], blocks: usize)
 // Is an image of bits a good record? By way of four rows of bytes.
 fn good_by(image: &[u8], z: Sizes, syn: &mut [u8]) -> bool
     requires { ⌜ Small z ⌝ }
+    requires { ⌜ z .closed ≡ true ⌝ }
     requires { ⌜ Image (shape z) (now image) ⌝ }
     requires { ⌜ length (now syn) ≡ 4 * track-length (shape z) ⌝ }
     ensures { λ r. ⌜ Tested (shape z) (cells (shape z) (now (image .entry))) r ⌝ }
@@ -198,6 +202,7 @@ fn good_by(image: &[u8], z: Sizes, syn: &mut [u8]) -> bool
 // Is an image a good record? One with a lost cell is not. A short record takes less room.
 fn image_good(image: &[u8], z: Sizes, lost: bool) -> bool
     requires { ⌜ Small z ⌝ }
+    requires { ⌜ z .closed ≡ true ⌝ }
     requires { ⌜ length (now image) ≡ image-size (shape z) ⌝ }
     requires { ⌜ LostTold (now image) lost ⌝ }
     ensures { λ r. ⌜ Tested (shape z) (cells (shape z) (now (image .entry))) r ⌝ }
@@ -229,6 +234,7 @@ pub fn read(blocks: u32, image: &[u8], out: &mut [u8]) -> Answer
         t1: 7,
         t2: 7,
         positions: 8 * n,
+        closed: true,
     };
     if !image_good(image, z, seen.lost) {
         return plain_answer(7, 0);

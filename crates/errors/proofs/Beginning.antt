@@ -14,13 +14,14 @@ use Rattle.plans.specs.declared.Form.{Form}
 use Rattle.plans.specs.Plans.{pivot}
 use Rattle.forms.specs.Streams.{Stream, cut}
 use Rattle.forms.specs.Forms.{left, met, gap, point}
-use Rattle.forms.specs.Found.{reach, only-in, ahead, across, stride, residue, pivot-sum}
+use Rattle.forms.specs.Found.{extent, only-in, ahead, across, stride, residue, pivot-sum}
 use Rattle.forms.proofs.Shifts.{cut-zero}
 use Rattle.forms.proofs.Lows.{low-zero, Ordered, form-order}
-use Rattle.forms.proofs.Strides.{Strides, reach-fits, form-strides}
+use Rattle.forms.proofs.Strides.{Strides, extent-fits, form-strides}
 use Rattle.errors.specs.Rows.{cell, diagonals, verticals}
 use Rattle.errors.specs.Steps.{ComputedIn, TestedIn, PivotsIn, Given, Quiet, Fresh}
 use Rattle.errors.proofs.Numbers.{data-seven}
+use Rattle.errors.proofs.Tails.{at-zero-none}
 
 module _ (z : Sizes) (end : ℕ) (p : Form) (rows found : List ℕ) (given : Given z end p rows found) (start : ℕ)
     (quiet : Quiet z rows start) (fresh : Fresh found start) where
@@ -65,7 +66,7 @@ module _ (z : Sizes) (end : ℕ) (p : Form) (rows found : List ℕ) (given : Giv
   order : Ordered (shape z) (pivot p) (p .below) s (p .v) q (p .u)
   order = form-order (shape z) p (given .sized)
 
-  numbers : 2 ≤ p .below → Strides (shape z) s (p .v) (pivot p s) q (p .u) (pivot p q) (reach (shape z) end (p .u))
+  numbers : 2 ≤ p .below → Strides (shape z) s (p .v) (pivot p s) q (p .u) (pivot p q) (extent (shape z) end (p .u))
   numbers = form-strides (shape z) end p (given .sized) (given .end-small)
 
   point-small : (d c : TrackSet) (t j : ℕ) → t ≤ 7 → point (shape z) d c t j ≤ 15
@@ -77,6 +78,18 @@ module _ (z : Sizes) (end : ℕ) (p : Form) (rows found : List ℕ) (given : Giv
 
   error-zero : (r : ℕ) → r < 5 → (m : ℕ) → m < 64 * start → cell found r m ≡ 0
   error-zero r h m l = fresh .zero r m h l
+
+  -- Nothing is left of the diagonals.
+  residue-zero : (U : Stream) → ((m : ℕ) → m < 64 * start → U m ≡ 0) → (d : TrackSet) (m : ℕ) → m < 64 * start → m < track-length (shape z) →
+      residue (shape z) end p D W U (cell found 1) d m ≡ 0
+  unfolding residue
+  residue-zero U none d m l b = omega (
+    arith,
+    left-zero (omega arith) d m (omega arith) b,
+    low-zero (p .below) (met (shape z) end (cell found 1) d s (p .v) (pivot p s) m) (met (shape z) end U d q (p .u) (pivot p q) m)
+        (λ h. met-zero (cell found 1) (error-zero 1 (omega arith)) d s (p .v) (pivot p s) m (λ r e. omega arith) (λ r e. omega arith))
+        (λ h. met-zero U none d q (p .u) (pivot p q) m (λ r e. omega arith) (λ r e. omega arith)),
+  )
 
   -- So the equations hold before the start.
   pub start-computed : ComputedIn z end p rows found (64 * start)
@@ -99,12 +112,13 @@ module _ (z : Sizes) (end : ℕ) (p : Form) (rows found : List ℕ) (given : Giv
       error-zero 4 (omega arith) m l,
       back-zero (cell found 0) m (gap (shape z) q (p .u) (pivot p q)) (λ r e. error-zero 0 (omega arith) r (omega arith)),
     );
-    upper-end = λ h m l b. error-zero 0 (omega arith) m l;
+    upper-end = λ h m l b e. error-zero 0 (omega arith) m l ∙ sym (at-zero-none (p .u) _
+        (ap (λ v. v % 2) (residue-zero (cut end (cell found 0)) (λ r k. cut-zero end (cell found 0) r (λ n. error-zero 0 (omega arith) r k)) q m l b)));
     lower = λ h m l b. let bv = order .v-below h in
         omega (
           arith,
           error-zero 1 (omega arith) m l,
-          left-zero (omega arith) s (m + p .v) (omega (arith, data-seven z s (given .small))) (omega (arith, reach-fits (shape z) (track-length (shape z)) (p .v) (omega arith) (omega (arith, lag-sets (shape z) s)))),
+          left-zero (omega arith) s (m + p .v) (omega (arith, data-seven z s (given .small))) (omega (arith, extent-fits (shape z) (track-length (shape z)) (p .v) (omega arith) (omega (arith, lag-sets (shape z) s)))),
           low-zero (p .below) 0 (met (shape z) end (cell found 0) s q (p .u) (pivot p q) (m + p .v)) (λ k. refl)
               (λ k. let n = numbers k in met-zero (cell found 0) (error-zero 0 (omega arith)) s q (p .u) (pivot p q) (m + p .v) (λ r e. omega arith) (λ r e. omega arith)),
           back-zero (cut end (cell found 1)) m (gap (shape z) s (p .v) (pivot p s)) (λ r e. cut-zero end (cell found 1) r (λ k. error-zero 1 (omega arith) r (omega arith))),
@@ -129,20 +143,9 @@ module _ (z : Sizes) (end : ℕ) (p : Form) (rows found : List ℕ) (given : Giv
       only-zero B A = refl
       only-zero B B = refl
 
-  residue-zero : (d : TrackSet) (m : ℕ) → m < 64 * start → m < track-length (shape z) →
-      residue (shape z) end p D W (cell found 0) (cell found 1) d m ≡ 0
-  unfolding residue
-  residue-zero d m l b = omega (
-    arith,
-    left-zero (omega arith) d m (omega arith) b,
-    low-zero (p .below) (met (shape z) end (cell found 1) d s (p .v) (pivot p s) m) (met (shape z) end (cell found 0) d q (p .u) (pivot p q) m)
-        (λ h. met-zero (cell found 1) (error-zero 1 (omega arith)) d s (p .v) (pivot p s) m (λ r e. omega arith) (λ r e. omega arith))
-        (λ h. met-zero (cell found 0) (error-zero 0 (omega arith)) d q (p .u) (pivot p q) m (λ r e. omega arith) (λ r e. omega arith)),
-  )
-
   pub start-tested : TestedIn z end p rows found (64 * start)
   start-tested = record {
-    diagonals = λ d m l b. ap (λ v. v % 2) (residue-zero d m l b);
+    diagonals = λ d m l b. ap (λ v. v % 2) (residue-zero (cell found 0) (error-zero 0 (omega arith)) d m l b);
     verticals = λ c m l b f. ap (λ v. v % 2) (sums-zero c m l (omega (arith, given .end-small)));
   }
 

@@ -3,6 +3,7 @@ pub mod Cells
 pub mod Charging
 pub mod Numbers
 pub mod Words
+pub mod Tails
 pub mod Lows
 pub mod Pivoting
 pub mod Stepping

@@ -2,12 +2,12 @@
 use mathlib.Core.Path.{_≡_, refl, sym, ap, _∙_}
 use mathlib.Core.Logic.{by-cases}
 use mathlib.Core.List.{List}
-use Prim.Native.Nat.{ℕ, zero, suc, _+_, _*_, _-_, _<_, _≤_, _%_}
+use Prim.Native.Nat.{ℕ, _+_, _*_, _-_, _<_, _≤_, _%_}
 use native.Mathlib.Decide.{decLt}
 use native.Mathlib.Omega.{arith}
 use lib.Bits.{bitXor}
 use lib.ListN.{getD}
-use Rattle.code.specs.Record.{TrackSet, Shape, lag, track-length, back}
+use Rattle.code.specs.Record.{TrackSet, lag, track-length, back}
 use Rattle.code.specs.Sizes.{shape}
 use Rattle.code.specs.declared.Sizes.{Sizes}
 use Rattle.code.proofs.Sums.{back-same}
@@ -18,22 +18,17 @@ use Rattle.words.specs.Words.{bit, First, Fed}
 use Rattle.words.proofs.Bit.{bit-lt, bit-xor}
 use Rattle.forms.specs.Streams.{Stream, cut}
 use Rattle.forms.specs.Forms.{left, met, gap}
-use Rattle.forms.specs.Found.{reach, low-sum, ahead, across, lower-row}
+use Rattle.forms.specs.Found.{extent, at-zero, low-sum, ahead, across, lower-row, residue}
 use Rattle.forms.proofs.Shifts.{cut-in, cut-out, cut-at}
-use Rattle.forms.proofs.Lows.{low-two, low-same, low-zero}
-use Rattle.forms.proofs.Pivots.{met-same}
-use Rattle.forms.proofs.Strides.{reach-fits, form-strides}
+use Rattle.forms.proofs.Lows.{low-two, low-zero}
+use Rattle.forms.proofs.Strides.{extent-fits}
 use Rattle.errors.specs.Rows.{cell, Rows, diagonals, verticals, Shown, GapOf, Put}
-use Rattle.errors.specs.Steps.{ComputedIn, PairWord, UpperWord, LowerWord, Later, UpperPut, LowerPut, Extended}
+use Rattle.errors.specs.Steps.{ComputedIn, Given, PairWord, UpperWord, LowerWord, Later, UpperPut, LowerPut, TailPut, Extended}
 use Rattle.errors.proofs.Shown.{shown-xor, shown-same, shown-at, shown-back}
 use Rattle.errors.proofs.Charging.{shown-first}
 use Rattle.errors.proofs.Numbers.{other-set, Numbers}
-use Rattle.errors.proofs.Words.{prior-word, next-fed, next-less, next-more, put-later, later-both, in-word, word-cases}
-
--- No track reaches past its end.
-reach-within : (sh : Shape) (w t : ℕ) → w ≤ track-length sh → reach sh w t ≤ track-length sh
-reach-within sh w zero l = l
-reach-within sh w (suc t) l = omega arith
+use Rattle.errors.proofs.Words.{prior-word, next-fed, next-less, next-more, put-later, later-same, later-both, in-word}
+use Rattle.errors.proofs.Tails.{extent-within, residue-early, lower-row-same, tail-same}
 
 -- ## Words
 
@@ -95,7 +90,7 @@ module _ (z : Sizes) (end : ℕ) (p : Form) (rows found : List ℕ) where
       Fed r prior d (end - 64 * i) x → LowerWord z end p rows found i x
   lower-next five i r prior j d x l h v first e g fed =
       let g′ = rw e at g in
-      let fits = reach-fits (shape z) (track-length (shape z)) (p .v) (omega arith) v in
+      let fits = extent-fits (shape z) (track-length (shape z)) (p .v) (omega arith) v in
       next-fed _ _ _ (end - 64 * i) i _ r prior d x l fed
       (λ k b m. shown-at _ _ _ r h k (64 * i + k + p .v) b (omega arith) (omega arith))
       (shown-first _ _ _ end _ prior (prior-word found 1 i (34 + i) (five .lead 1 (omega arith)) (omega arith)) first)
@@ -110,22 +105,24 @@ module _ (z : Sizes) (end : ℕ) (p : Form) (rows found : List ℕ) where
     abbrev v-gap : ℕ
     v-gap = gap (shape z) s (p .v) (pivot p s)
 
+    -- v's error in f is a quotient at m.
+    abbrev lower-at : List ℕ → ℕ → Type 0
+    lower-at f m = cell f 1 m ≡ (row (cell f 0) m + back (cut end (cell f 1)) m v-gap) % 2
+
     -- u's, at the end where u can be wrong: f has the pair's word, and h the error's too.
     pub upper-put : (pair w w′ : ℕ) (f h : List ℕ) → end ≤ track-length (shape z) → 2 ≤ p .below → ComputedIn z end p rows found (64 * i) →
-        PairWord z end p rows found i pair → Put 5 found 4 i pair f → UpperWord z p f i pair w → First w (reach (shape z) end (p .u) - 64 * i) w′ →
+        PairWord z end p rows found i pair → Put 5 found 4 i pair f → UpperWord z p f i pair w → First w (extent (shape z) end (p .u) - 64 * i) w′ →
         Put 5 f 0 i w′ h → UpperPut z end p rows found i h
     upper-put pair w w′ f h l two computed pw put₁ uw first put₂ = record {
       later = later-both i _ _ _ (put-later found 4 i pair f put₁) (put-later f 0 i w′ h put₂);
       lower-stays = put₂ .there 1 (omega arith) (omega arith) ∙ put₁ .there 1 (omega arith) (omega arith);
       pair = rw same-pair (next-more _ (cell found 4) (cell f 4) _ i _ pair pw (put₁ .early) (λ k b m. put₁ .here k b) (computed .pair two));
       upper = rw same-pair (next-more (cell f 4) (cell f 0) (cell h 0) _ i _ w
-          (next-less _ _ _ i _ _ w (reach-within (shape z) end (p .u) l) (uw (cell f 4) (λ k b. omega (arith, put₁ .here k b, bit-lt pair k))))
+          (next-less _ _ _ i _ _ w (extent-within (shape z) end (p .u) l) (uw (cell f 4) (λ k b. omega (arith, put₁ .here k b, bit-lt pair k))))
           (put₂ .early)
           (λ k b m. put₂ .here k b ∙ first .cells k (omega arith))
           (λ m b r. rw same-upper (computed .upper two m b r ∙ ap (λ v. (v + back (cell found 0) m u-gap) % 2) (sym (put₁ .early m b)))));
-      upper-end = word-cases i (λ m. reach (shape z) end (p .u) ≤ m → cell h 0 m ≡ 0)
-          (λ m b r. put₂ .early m b ∙ rw same-upper (computed .upper-end two m b r))
-          (λ k b r. put₂ .here k b ∙ first .none k (omega arith));
+      upper-end = in-word i (λ m. extent (shape z) end (p .u) ≤ m → cell h 0 m ≡ 0) (λ k b r. put₂ .here k b ∙ first .none k (omega arith));
     }
       where
         same-pair : cell h 4 ≡ cell f 4
@@ -135,71 +132,36 @@ module _ (z : Sizes) (end : ℕ) (p : Form) (rows found : List ℕ) where
         same-upper = put₁ .there 0 (omega arith) (omega arith)
 
     -- v's, at the end where v can be wrong.
-    pub lower-put : (w w′ : ℕ) (f : List ℕ) → LowerWord z end p rows found i w → First w (reach (shape z) (track-length (shape z)) (p .v) - 64 * i) w′ →
+    pub lower-put : (w w′ : ℕ) (f : List ℕ) → LowerWord z end p rows found i w → First w (extent (shape z) (track-length (shape z)) (p .v) - 64 * i) w′ →
         Put 5 found 1 i w′ f → LowerPut z end p rows found i f
     lower-put w w′ f lw first put = record {
       later = put-later found 1 i w′ f put;
       upper-stays = put .there 0 (omega arith) (omega arith);
       pair-stays = put .there 4 (omega arith) (omega arith);
       lower = in-word i
-          (λ m. m < reach (shape z) (track-length (shape z)) (p .v) → cell f 1 m ≡ (row (cell f 0) m + back (cut end (cell f 1)) m v-gap) % 2)
+          (λ m. m < extent (shape z) (track-length (shape z)) (p .v) → lower-at f m)
           (λ k b r. here k b r ∙ rw same-upper (lw .cells (cut end (cell f 1))
-          (λ m b. cut-at end (cell f 1) (cell found 1) m (put .early m b))
+          (λ m b. cut-at end (cell f 1) (cell found 1) m (λ n. put .early m b))
           (λ k b n r. cut-in end (cell f 1) (64 * i + k) (omega arith) ∙ here k b r)
           (λ k b n r. cut-out end (cell f 1) (64 * i + k) (omega arith)) k b r));
-      lower-end = in-word i (λ m. reach (shape z) (track-length (shape z)) (p .v) ≤ m → cell f 1 m ≡ 0) (λ k b r. put .here k b ∙ first .none k (omega arith));
+      lower-end = in-word i (λ m. extent (shape z) (track-length (shape z)) (p .v) ≤ m → cell f 1 m ≡ 0) (λ k b r. put .here k b ∙ first .none k (omega arith));
     }
       where
         same-upper : cell f 0 ≡ cell found 0
         same-upper = put .there 0 (omega arith) (omega arith)
 
-        here : (k : ℕ) → k < 64 → 64 * i + k < reach (shape z) (track-length (shape z)) (p .v) → cell f 1 (64 * i + k) ≡ bit w k
+        here : (k : ℕ) → k < 64 → 64 * i + k < extent (shape z) (track-length (shape z)) (p .v) → cell f 1 (64 * i + k) ≡ bit w k
         here k b r = put .here k b ∙ first .cells k (omega arith)
 
-    -- v's diagonal meets u before the position that it is read for.
-    lower-row-early : (f : List ℕ) → Sized (shape z) p → end ≤ track-length (shape z) → Later i found f → (m : ℕ) → m < 64 * i →
-        row (cell found 0) m ≡ row (cell f 0) m
-    lower-row-early f sized l later m b = ap (λ v. R s (m + p .v) + v)
-        (low-same (p .below) 0 _ 0 _ (λ h. refl) (λ h.
-        let t = form-strides (shape z) end p sized l h in
-        met-same (shape z) end (cell found 0) (cell f 0) _ _ _ _ (m + p .v)
-        (λ n e. sym (later .early 0 n (omega arith) (omega arith))) (λ n e. sym (later .early 0 n (omega arith) (omega arith)))))
+    -- Before u's tail is put, there is none.
+    pub tail-empty : (f g : List ℕ) → UpperPut z end p rows found i f → LowerPut z end p rows f i g →
+        (m : ℕ) → 64 * i ≤ m → m < 64 * (i + 1) → extent (shape z) end (p .u) ≤ m → cell g 0 m ≡ 0
+    tail-empty f g upper lower = rw (lower .upper-stays) (upper .upper-end)
 
-    -- A cell of v's error, where the errors before it stay.
-    lower-early : (f : List ℕ) → Sized (shape z) p → end ≤ track-length (shape z) → Later i found f → (m : ℕ) → m < 64 * i →
-        cell found 1 m ≡ (row (cell found 0) m + back (cut end (cell found 1)) m v-gap) % 2 →
-        cell f 1 m ≡ (row (cell f 0) m + back (cut end (cell f 1)) m v-gap) % 2
-    lower-early f sized l later m b e = later .early 1 m (omega arith) b ∙ e ∙ omega (
-      arith,
-      lower-row-early f sized l later m b,
-      back-same (cut end (cell found 1)) (cut end (cell f 1)) m v-gap (λ n a. cut-at end (cell found 1) (cell f 1) n (sym (later .early 1 n (omega arith) (omega arith)))),
-    )
-
-    -- All of them, where u's are put if there is u.
-    pub extended : (f h : List ℕ) → Sized (shape z) p → end ≤ track-length (shape z) → 1 ≤ p .below → ComputedIn z end p rows found (64 * i) →
-        Later i found f → (2 ≤ p .below → UpperPut z end p rows found i f) → LowerPut z end p rows f i h → Extended z end p rows found i h
-    extended f h sized l one computed later upper lower = record {
-      later = all-later;
-      computed = record {
-        pair = λ two. rw (lower .pair-stays) (upper two .pair);
-        upper = λ two. rw (lower .pair-stays, lower .upper-stays) (upper two .upper);
-        upper-end = λ two. rw (lower .upper-stays) (upper two .upper-end);
-        lower = λ _ m a r. by-cases (decLt m (64 * i))
-            (λ b. lower-early h sized l all-later m b (computed .lower one m b r))
-            (λ b. lower .lower m (omega arith) a r);
-        lower-end = λ _ m a r. by-cases (decLt m (64 * i))
-            (λ b. all-later .early 1 m (omega arith) b ∙ computed .lower-end one m b r)
-            (λ b. lower .lower-end m (omega arith) a r);
-      };
-    }
-      where
-        all-later : Later i found h
-        all-later = later-both i _ _ _ later (lower .later)
-
-    -- There are none.
-    pub extended-none : (f : List ℕ) → p .below < 1 → Later i found f → Extended z end p rows found i f
-    extended-none f l later = record {
-      later = later;
+    -- There are no errors below the pivots.
+    pub extended-none : Rows 5 found → p .below < 1 → Extended z end p rows found i found
+    extended-none five l = record {
+      later = later-same i found five;
       computed = record {
         pair = λ h. absurd (omega arith);
         upper = λ h. absurd (omega arith);
@@ -208,3 +170,74 @@ module _ (z : Sizes) (end : ℕ) (p : Form) (rows found : List ℕ) where
         lower-end = λ h. absurd (omega arith);
       };
     }
+
+    module _ (given : Given z end p rows found) (computed : ComputedIn z end p rows found (64 * i)) where
+      -- v's error in word i, with the words before.
+      module _ (one : 1 ≤ p .below) (h : List ℕ) (later : Later i found h) where
+        lower-all : ((m : ℕ) → 64 * i ≤ m → m < 64 * (i + 1) → m < extent (shape z) (track-length (shape z)) (p .v) → lower-at h m) →
+            (m : ℕ) → m < 64 * (i + 1) → m < extent (shape z) (track-length (shape z)) (p .v) → lower-at h m
+        lower-all word m a r = by-cases (decLt m (64 * i))
+            (λ b. later .early 1 m (omega arith) b ∙ computed .lower one m b r ∙ omega (
+              arith,
+              lower-row-same z end p rows found given (cell found 0) (cell h 0) m r (λ n k e. sym (later .early 0 n (omega arith) (omega arith))),
+              back-same (cut end (cell found 1)) (cut end (cell h 1)) m v-gap
+                  (λ n k. cut-at end (cell found 1) (cell h 1) n (λ e. sym (later .early 1 n (omega arith) (omega arith)))),
+            ))
+            (λ b. word m (omega arith) a r)
+
+        lower-end-all : ((m : ℕ) → 64 * i ≤ m → m < 64 * (i + 1) → extent (shape z) (track-length (shape z)) (p .v) ≤ m → cell h 1 m ≡ 0) →
+            (m : ℕ) → m < 64 * (i + 1) → extent (shape z) (track-length (shape z)) (p .v) ≤ m → cell h 1 m ≡ 0
+        lower-end-all word m a r = by-cases (decLt m (64 * i))
+            (λ b. later .early 1 m (omega arith) b ∙ computed .lower-end one m b r)
+            (λ b. word m (omega arith) a r)
+
+      -- There is v alone.
+      pub extended-one : (h : List ℕ) → p .below ≡ 1 → LowerPut z end p rows found i h → Extended z end p rows found i h
+      extended-one h one lower = record {
+        later = lower .later;
+        computed = record {
+          pair = λ two. absurd (omega arith);
+          upper = λ two. absurd (omega arith);
+          upper-end = λ two. absurd (omega arith);
+          lower = λ b. lower-all b h (lower .later) (lower .lower);
+          lower-end = λ b. lower-end-all b h (lower .later) (lower .lower-end);
+        };
+      }
+
+      -- There are both.
+      module _ (f g h : List ℕ) (two : 2 ≤ p .below) (upper : UpperPut z end p rows found i f) (lower : LowerPut z end p rows f i g) (tail : TailPut z end p rows g i h) where
+        all-later : Later i found h
+        all-later = later-both i _ _ _ (upper .later) (later-both i _ _ _ (lower .later) (tail .later))
+
+        -- u's error before the tail, and in it.
+        upper-all : (m : ℕ) → m < 64 * (i + 1) → m < extent (shape z) end (p .u) → cell h 0 m ≡ (cell f 4 m + back (cell h 0) m u-gap) % 2
+        upper-all m b r =
+            let same : (n : ℕ) → n ≤ m → cell h 0 n ≡ cell f 0 n = λ n a. tail .same n (omega arith) ∙ ap (λ x. x n) (lower .upper-stays) in
+            same m (omega arith) ∙ upper .upper m b r ∙ ap (λ v. (cell f 4 m + v) % 2) (back-same (cell f 0) (cell h 0) m u-gap (λ n a. sym (same n (omega arith))))
+
+        upper-end-all : (m : ℕ) → m < 64 * (i + 1) → m < track-length (shape z) → extent (shape z) end (p .u) ≤ m →
+            cell h 0 m ≡ at-zero (p .u) (residue (shape z) end p (diagonals rows) (verticals rows) (cut end (cell h 0)) (cell h 1) q m % 2)
+        upper-end-all m b l r = by-cases (decLt m (64 * i))
+            (λ a. all-later .early 0 m (omega arith) a ∙ computed .upper-end two m a l r ∙ ap (λ v. at-zero (p .u) (v % 2)) (residue-early z end p rows _ _ _ _ q m
+            (λ n k. cut-at end _ _ n (λ e. sym (all-later .early 0 n (omega arith) (omega arith)))) (λ n k. sym (all-later .early 1 n (omega arith) (omega arith)))))
+            (λ a. tail .tail m (omega arith) b l r)
+
+        -- v's diagonal meets none of the tail.
+        lower-word : (m : ℕ) → 64 * i ≤ m → m < 64 * (i + 1) → m < extent (shape z) (track-length (shape z)) (p .v) → lower-at h m
+        lower-word m a b r =
+            let l = extent-within (shape z) (track-length (shape z)) (p .v) (omega arith) in
+            rw (tail .others 1 (omega arith) (omega arith)) (lower .lower m a b r ∙ ap (λ v. (v + back (cut end (cell g 1)) m v-gap) % 2)
+            (lower-row-same z end p rows found given (cell g 0) (cell h 0) m r
+            (λ n k e. tail-same z end p rows i g (tail-empty f g upper lower) h tail n (omega arith) (omega arith) e)))
+
+        pub extended-two : Extended z end p rows found i h
+        extended-two = record {
+          later = all-later;
+          computed = record {
+            pair = λ _. rw (tail .others 4 (omega arith) (omega arith), lower .pair-stays) (upper .pair);
+            upper = λ _. rw (tail .others 4 (omega arith) (omega arith), lower .pair-stays) upper-all;
+            upper-end = λ _. upper-end-all;
+            lower = λ one. lower-all one h all-later lower-word;
+            lower-end = λ one. lower-end-all one h all-later (rw (tail .others 1 (omega arith) (omega arith)) (lower .lower-end));
+          };
+        }

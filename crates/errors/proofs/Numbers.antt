@@ -12,7 +12,7 @@ use Rattle.syndrome.specs.Syndrome.{set-of}
 use Rattle.plans.specs.declared.Form.{Form}
 use Rattle.plans.specs.Plans.{pivot, Sized}
 use Rattle.forms.specs.Forms.{gap, top, point}
-use Rattle.forms.specs.Found.{reach, ahead, across, along}
+use Rattle.forms.specs.Found.{extent, ahead, across, along}
 use Rattle.forms.proofs.Lows.{form-order}
 use Rattle.forms.proofs.Pivots.{point-own, point-across, kinds}
 use Rattle.forms.proofs.Strides.{Strides, form-strides}
@@ -85,7 +85,7 @@ pub record Numbers (z : Sizes) (end : ℕ) (p : Form) (a b c : ℕ) : Type 0 whe
   pub b-is : b ≡ across (shape z) end p
   pub c-is : c ≡ along (shape z) end p
   pub v-small : p .v ≤ 7
-  pub met : Strides (shape z) (set-of (p .s)) (p .v) (pivot p (set-of (p .s))) (set-of (p .q)) (p .u) (pivot p (set-of (p .q))) (reach (shape z) end (p .u))
+  pub met : Strides (shape z) (set-of (p .s)) (p .v) (pivot p (set-of (p .s))) (set-of (p .q)) (p .u) (pivot p (set-of (p .q))) (extent (shape z) end (p .u))
 
 pub numbers : (z : Sizes) (end : ℕ) (p : Form) → Small z → end ≤ track-length (shape z) → Sized (shape z) p → 2 ≤ p .below → (j k a b c : ℕ) →
     j ≡ pivot p (set-of (p .s)) → k ≡ pivot p (set-of (p .q)) →

@@ -13,14 +13,13 @@ use Rattle.syndrome.specs.Syndrome.{set-of, row-of}
 use Rattle.plans.specs.declared.Form.{Form}
 use Rattle.plans.specs.Plans.{room}
 use Rattle.forms.specs.Streams.{Stream, cut}
-use Rattle.forms.specs.Forms.{left}
 use Rattle.forms.specs.Found.{only-in, residue, pivot-sum}
 use Rattle.forms.proofs.Shifts.{cut-at}
 use Rattle.forms.proofs.Lows.{low-same}
-use Rattle.forms.proofs.Pivots.{met-same}
 use Rattle.errors.specs.Rows.{cell, diagonals, verticals}
 use Rattle.errors.specs.Steps.{ComputedIn, TestedIn, PivotsIn, Later, Extended, PivotPut, DiagonalTold, Stepped}
 use Rattle.errors.proofs.Words.{later-both}
+use Rattle.errors.proofs.Tails.{residue-early}
 
 module _ (z : Sizes) (end : ℕ) (p : Form) (rows : List ℕ) (i : ℕ) where
   -- What is left of the diagonals and of the verticals.
@@ -30,15 +29,7 @@ module _ (z : Sizes) (end : ℕ) (p : Form) (rows : List ℕ) (i : ℕ) where
   abbrev sums : List ℕ → TrackSet → Stream
   sums found = pivot-sum (shape z) end p (diagonals rows) (verticals rows) (cell found 0) (cell found 1)
 
-  -- It takes no errors past the position.
-  residue-early : (x y : List ℕ) → Later i x y → (d : TrackSet) (m : ℕ) → m < 64 * i → residues y d m ≡ residues x d m
-  unfolding residue
-  residue-early x y l d m h =
-      let e : (r q : ℕ) → r < 5 → q ≤ m → cell y r q ≡ cell x r q = λ r q s o. l .early r q s (omega arith) in
-      ap (λ v. left (shape z) end (diagonals rows) (verticals rows) p d m + v) (low-same (p .below) _ _ _ _
-      (λ b. met-same (shape z) end (cell y 1) (cell x 1) d _ _ _ m (λ q o. e 1 q (omega arith) (omega arith)) (λ q o. e 1 q (omega arith) (omega arith)))
-      (λ b. met-same (shape z) end (cell y 0) (cell x 0) d _ _ _ m (λ q o. e 0 q (omega arith) (omega arith)) (λ q o. e 0 q (omega arith) (omega arith))))
-
+  -- The verticals take no errors past the position.
   sums-early : (x y : List ℕ) → Later i x y → (c : TrackSet) (m : ℕ) → m < 64 * i → sums y c m ≡ sums x c m
   unfolding pivot-sum
   sums-early x y l c m h = ap (λ v. verticals rows c m + v) (low-same (p .below) _ _ _ _
@@ -98,7 +89,8 @@ module _ (z : Sizes) (end : ℕ) (p : Form) (rows : List ℕ) (i : ℕ) where
 
       diagonals-right : (d : TrackSet) (m : ℕ) → m < 64 * (i + 1) → m < track-length (shape z) → residues last d m % 2 ≡ 0
       diagonals-right d m h b = by-cases (decLt m (64 * i))
-          (λ l. ap (λ k. k % 2) (residue-early before last all-later d m l) ∙ t .diagonals d m l b)
+          (λ l. ap (λ k. k % 2) (residue-early z end p rows _ _ _ _ d m
+          (λ o h. all-later .early 0 o (omega arith) (omega arith)) (λ o h. all-later .early 1 o (omega arith) (omega arith))) ∙ t .diagonals d m l b)
           (λ l. rw (same-mid 0 (omega arith), same-mid 1 (omega arith)) (word-zero d m (omega arith) h b))
 
       verticals-right : r ≡ true → (c : TrackSet) (m : ℕ) → m < 64 * (i + 1) → m < end → room p c ≤ m → sums last c m % 2 ≡ 0
@@ -112,7 +104,7 @@ module _ (z : Sizes) (end : ℕ) (p : Form) (rows : List ℕ) (i : ℕ) where
 
       pivots-put : PivotsIn z end p rows last (64 * (i + 1))
       pivots-put c m h = by-cases (decLt m (64 * i))
-          (λ l. all-later .early (2 + row-of c) m (small c) l ∙ v c m l ∙ cut-at end _ _ m (ap (λ x. x % 2) (sym (sums-early before last all-later c m l))))
+          (λ l. all-later .early (2 + row-of c) m (small c) l ∙ v c m l ∙ cut-at end _ _ m (λ k. ap (λ x. x % 2) (sym (sums-early before last all-later c m l))))
           (λ l. word c (omega arith))
         where
           small : (c : TrackSet) → 2 + row-of c < 5

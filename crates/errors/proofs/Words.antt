@@ -109,4 +109,4 @@ later-both i x y w p q = record { rows = q .rows; early = λ r m l h. q .early r
 
 -- Rows of errors that are still rows.
 pub kept-given : (z : Sizes) (end : ℕ) (p : Form) (rows before after : List ℕ) → Given z end p rows before → Rows 5 after → Given z end p rows after
-kept-given z end p rows before after g r = record { small = g .small; end-small = g .end-small; sized = g .sized; sums = g .sums; errors = r }
+kept-given z end p rows before after g r = record { small = g .small; end-data = g .end-data; end-small = g .end-small; sized = g .sized; sums = g .sums; errors = r }

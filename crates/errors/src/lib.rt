@@ -9,7 +9,7 @@ ghost use Rattle.code.specs.Sizes.{shape, Small};
 ghost use Rattle.syndrome.specs.Syndrome.{set-of};
 ghost use Rattle.plans.specs.Plans.{pivot, room, Sized};
 ghost use Rattle.forms.specs.Forms.{left, met, gap, point};
-ghost use Rattle.forms.specs.Found.{reach, residue};
+ghost use Rattle.forms.specs.Found.{extent, residue};
 ghost use Rattle.errors.specs.Rows.{
   cell,
   Rows,
@@ -32,6 +32,7 @@ ghost use Rattle.errors.specs.Steps.{
   LowerWord,
   UpperPut,
   LowerPut,
+  TailPut,
   Extended,
   PivotWord,
   PivotPut,
@@ -212,8 +213,8 @@ fn gap_of(z: Sizes, s: usize, t: usize, j: usize) -> usize
 }
 
 // The cells up to which track t may be wrong, where w is that of track 0.
-fn reach_of(z: Sizes, w: usize, t: usize) -> usize
-    ensures { λ r. ⌜ r ≡ reach (shape z) w t ⌝ }
+fn extent_of(z: Sizes, w: usize, t: usize) -> usize
+    ensures { λ r. ⌜ r ≡ extent (shape z) w t ⌝ }
 {
     if t == 0 { w } else { z.positions }
 }
@@ -304,7 +305,7 @@ fn put_upper(rows: &[u64], found: &mut [u64], z: Sizes, end: usize, p: Form, i: 
         found,
         0,
         i,
-        words::first_cells(w, rest(reach_of(z, end, p.u), i)),
+        words::first_cells(w, rest(extent_of(z, end, p.u), i)),
     );
 }
 
@@ -321,26 +322,9 @@ fn put_lower(rows: &[u64], found: &mut [u64], z: Sizes, end: usize, p: Form, i: 
         found,
         1,
         i,
-        words::first_cells(w, rest(reach_of(z, l, p.v), i)),
+        words::first_cells(w, rest(extent_of(z, l, p.v), i)),
     );
 }
-
-// Puts word i of the errors below the pivots.
-fn extend(rows: &[u64], found: &mut [u64], z: Sizes, end: usize, p: Form, i: usize)
-    requires { ⌜ Given z end p (now rows) (now found) ⌝ }
-    requires { ⌜ 64 * i < track-length (shape z) ⌝ }
-    requires { ⌜ ComputedIn z end p (now rows) (now found) (64 * i) ⌝ }
-    ensures { λ _. ⌜ Extended z end p (now (rows .entry)) (now (found .entry)) i (now (found .exit)) ⌝ }
-{
-    if 2 <= p.below {
-        put_upper(rows, found, z, end, p, i);
-    }
-    if 1 <= p.below {
-        put_lower(rows, found, z, end, p, i);
-    }
-}
-
-// ---- The test
 
 // What is left of the diagonal of set d when the errors below the pivots are taken off.
 fn residue_at(
@@ -370,6 +354,47 @@ fn residue_at(
     }
     lower ^ met_at(found, z, end, 0, d, q, p.u, pivot_track(p, q), at)
 }
+
+// Puts word i of u's tail, where u is track 0 and rule 3 ends before it: what is left of its own diagonal.
+fn put_tail(rows: &[u64], found: &mut [u64], z: Sizes, end: usize, p: Form, i: usize)
+    requires { ⌜ Given z end p (now rows) (now found) ⌝ }
+    requires { ⌜ 2 ≤ p .below ⌝ }
+    requires { ⌜ 64 * i < track-length (shape z) ⌝ }
+    requires { ⌜ ((m : ℕ) → 64 * i ≤ m → m < 64 * (i + 1) → extent (shape z) end (p .u) ≤ m → cell (now found) 0 m ≡ 0) ⌝ }
+    ensures { λ _. ⌜ TailPut z end p (now (rows .entry)) (now (found .entry)) i (now (found .exit)) ⌝ }
+{
+    if p.u != 0 {
+        return;
+    }
+    if 64 * i + 64 <= end {
+        return;
+    }
+    let r = residue_at(rows, found, z, end, p, p.q, 64 * i + 64);
+    let tail = r ^ words::first_cells(r, rest(end, i));
+    let w = found[1 + i] ^ tail;
+    put_word(found, 0, i, w);
+}
+
+// Puts word i of the errors below the pivots.
+fn extend(rows: &[u64], found: &mut [u64], z: Sizes, end: usize, p: Form, i: usize)
+    requires { ⌜ Given z end p (now rows) (now found) ⌝ }
+    requires { ⌜ 64 * i < track-length (shape z) ⌝ }
+    requires { ⌜ ComputedIn z end p (now rows) (now found) (64 * i) ⌝ }
+    ensures { λ _. ⌜ Extended z end p (now (rows .entry)) (now (found .entry)) i (now (found .exit)) ⌝ }
+{
+    if p.below == 0 {
+        return;
+    }
+    if p.below == 1 {
+        put_lower(rows, found, z, end, p, i);
+        return;
+    }
+    put_upper(rows, found, z, end, p, i);
+    put_lower(rows, found, z, end, p, i);
+    put_tail(rows, found, z, end, p, i);
+}
+
+// ---- The test
 
 // Is the diagonal of set d 0 in word i?
 fn diagonal_zero(

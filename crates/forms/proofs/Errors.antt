@@ -4,9 +4,9 @@ use mathlib.Core.List.{List, [], _∷_}
 use Prim.Native.Nat.{ℕ, zero, suc, _+_, _-_, _<_, _≤_, _%_}
 use native.Mathlib.Decide.{ℕ-discrete}
 use native.Mathlib.Omega.{arith}
-use Rattle.code.specs.Record.{TrackSet, A, B, Shape, data-tracks, tracks, lag, track-length, vertical-end, Cells, back, sum, diagonal, vertical, Good}
+use Rattle.code.specs.Record.{TrackSet, A, B, Shape, data-tracks, tracks, lag, track-length, vertical-end, tail-tracks, Cells, back, sum, diagonal, vertical, Good}
 use Rattle.code.proofs.Sums.{back-early, back-zero, sum-same, sum-zero}
-use Rattle.code.proofs.Cell.{vertical-within, tail-data}
+use Rattle.code.proofs.Cell.{vertical-within}
 use Rattle.code.proofs.Linear.{_⊞_, plus, diagonal-add, vertical-add, diagonal-mod, vertical-mod}
 use Rattle.code.proofs.OneTrack.{offset, offset-vertical, offset-both}
 use Rattle.plans.specs.Lists.{Falls, Off}
@@ -59,9 +59,9 @@ module _ (sh : Shape) (x y : Cells) (gy : Good sh y) where
   clear : (s : TrackSet) (ts : List ℕ) → Flagged sh x y s ts → (t p : ℕ) → t < tracks sh s → Off t ts → p < track-length sh → plus x y s t p ≡ 0
   clear s ts fl t p l o b = omega (arith, fl .agree t p l o b)
 
-  -- A data track has no errors in the tail, where x is 0 there.
-  pub tail-clear : (s : TrackSet) (t m : ℕ) → 1 ≤ t → t ≤ data-tracks sh s → sh .positions ≤ m → m < track-length sh → x s t m ≡ 0 → plus x y s t m ≡ 0
-  tail-clear s t m k l low b z = omega (arith, gy .tail s t m k (omega (arith, tail-data sh s)) low b)
+  -- Where rule 4 makes the tail 0 there are no errors, if x is 0 there.
+  pub tail-clear : (s : TrackSet) (t m : ℕ) → 1 ≤ t → t < tail-tracks sh s → sh .positions ≤ m → m < track-length sh → x s t m ≡ 0 → plus x y s t m ≡ 0
+  tail-clear s t m k l low b z = omega (arith, gy .tail s t m k l low b)
 
   -- The vertical of x is that of its errors.
   pub vertical-errors : (s : TrackSet) (ts : List ℕ) → Flagged sh x y s ts → (m : ℕ) → m < vertical-end sh →

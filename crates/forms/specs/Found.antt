@@ -1,7 +1,7 @@
 -- Errors found by the closed forms, from the sums of a record.
 use mathlib.Core.Path.{_≡_}
 use Prim.Native.Nat.{ℕ, zero, suc, _+_, _-_, _<_, _≤_, _%_}
-use Rattle.code.specs.Record.{TrackSet, A, B, other, Shape, data-tracks, track-length, Cells, back, diagonal, vertical}
+use Rattle.code.specs.Record.{TrackSet, A, B, other, Shape, track-length, tail-tracks, Cells, back, diagonal, vertical}
 use Rattle.code.proofs.Linear.{_⊞_}
 use Rattle.code.proofs.OneTrack.{put}
 use Rattle.syndrome.specs.Syndrome.{set-of}
@@ -15,20 +15,25 @@ pub record Sums (sh : Shape) (x : Cells) (D W : TrackSet → Stream) : Type 0 wh
   pub diagonals : (d : TrackSet) (m : ℕ) → m < track-length sh → D d m ≡ diagonal sh x d m % 2
   pub verticals : (c : TrackSet) (m : ℕ) → m < track-length sh → W c m ≡ vertical sh x c m % 2
 
--- The data tracks of x are 0 in the tail.
+-- The tails of x are 0 where rule 4 makes them so.
 abbrev pub Tails : Shape → Cells → Type 0
-Tails sh x = (s : TrackSet) (t m : ℕ) → 1 ≤ t → t ≤ data-tracks sh s → sh .positions ≤ m → m < track-length sh → x s t m ≡ 0
+Tails sh x = (s : TrackSet) (t m : ℕ) → 1 ≤ t → t < tail-tracks sh s → sh .positions ≤ m → m < track-length sh → x s t m ≡ 0
 
 -- The cells up to which track t may be wrong: track 0 up to w, a data track before the tail.
-abbrev pub reach : Shape → ℕ → ℕ → ℕ
-reach sh w zero = w
-reach sh w (suc t) = sh .positions
+abbrev pub extent : Shape → ℕ → ℕ → ℕ
+extent sh w zero = w
+extent sh w (suc t) = sh .positions
 
 -- What counts of two terms, one for each track below the pivots.
 abbrev pub low-sum : ℕ → ℕ → ℕ → ℕ
 low-sum zero x y = 0
 low-sum (suc zero) x y = x
 low-sum (suc (suc k)) x y = x + y
+
+-- What counts where t is track 0.
+abbrev pub at-zero : ℕ → ℕ → ℕ
+at-zero zero x = x
+at-zero (suc t) x = 0
 
 -- x in set s, as set c sees it.
 abbrev pub only-in : TrackSet → TrackSet → ℕ → ℕ
@@ -67,15 +72,6 @@ module _ (sh : Shape) (end : ℕ) (p : Form) where
     abbrev pub lower-row : Stream → Stream
     lower-row U m = left sh end D W p s (m + p .v) + low-sum (p .below) 0 (met sh end U s q (p .u) (pivot p q) (m + p .v))
 
-    -- X is the pair of u, U the error of u and E that of v, at the first n positions. Where there is one track below the pivots it is v.
-    pub record Computed (X U E : Stream) (n : ℕ) : Type 0 where
-      pub pair : 2 ≤ p .below → (m : ℕ) → m < n → m < reach sh end (p .u) → X m ≡ (eliminated-row m + back X m stride) % 2
-      pub upper : 2 ≤ p .below → (m : ℕ) → m < n → m < reach sh end (p .u) → U m ≡ (X m + back U m (gap sh q (p .u) (pivot p q))) % 2
-      pub upper-end : 2 ≤ p .below → (m : ℕ) → m < n → reach sh end (p .u) ≤ m → U m ≡ 0
-      pub lower : 1 ≤ p .below → (m : ℕ) → m < n → m < reach sh (track-length sh) (p .v) →
-          E m ≡ (lower-row U m + back (cut end E) m (gap sh s (p .v) (pivot p s))) % 2
-      pub lower-end : 1 ≤ p .below → (m : ℕ) → m < n → reach sh (track-length sh) (p .v) ≤ m → E m ≡ 0
-
     -- What is left of the diagonal of set d, and of the vertical of set c, when the errors of u and v are taken off.
     unfoldable pub residue : Stream → Stream → TrackSet → Stream
     residue U E d m = left sh end D W p d m
@@ -83,6 +79,16 @@ module _ (sh : Shape) (end : ℕ) (p : Form) where
 
     unfoldable pub pivot-sum : Stream → Stream → TrackSet → Stream
     pivot-sum U E c m = W c m + low-sum (p .below) (only-in s c (E m)) (only-in q c (U m))
+
+    -- X is the pair of u, U the error of u and E that of v, at the first n positions. Where there is one track below the pivots it is v.
+    -- Past `end` track 0 is what its own diagonal leaves for it.
+    pub record Computed (X U E : Stream) (n : ℕ) : Type 0 where
+      pub pair : 2 ≤ p .below → (m : ℕ) → m < n → m < extent sh end (p .u) → X m ≡ (eliminated-row m + back X m stride) % 2
+      pub upper : 2 ≤ p .below → (m : ℕ) → m < n → m < extent sh end (p .u) → U m ≡ (X m + back U m (gap sh q (p .u) (pivot p q))) % 2
+      pub upper-end : 2 ≤ p .below → (m : ℕ) → m < n → m < track-length sh → extent sh end (p .u) ≤ m → U m ≡ at-zero (p .u) (residue (cut end U) E q m % 2)
+      pub lower : 1 ≤ p .below → (m : ℕ) → m < n → m < extent sh (track-length sh) (p .v) →
+          E m ≡ (lower-row U m + back (cut end E) m (gap sh s (p .v) (pivot p s))) % 2
+      pub lower-end : 1 ≤ p .below → (m : ℕ) → m < n → extent sh (track-length sh) (p .v) ≤ m → E m ≡ 0
 
     -- The test of all sums and tails at the first n positions: the diagonals are 0, and what is left of the verticals is 0 where the pivots
     -- cannot be wrong.

@@ -1,4 +1,4 @@
--- Tails that are cleared: one track's, and those of a set's data tracks in turn.
+-- Tails that are cleared: one track's, and those of a set's tracks in turn.
 use mathlib.Core.Path.{_≡_, refl, sym, ap, _∙_}
 use mathlib.Core.Logic.{_≢_, by-cases}
 use mathlib.Core.Bool.{Bool, true, false, true≢false}
@@ -107,7 +107,7 @@ module _ (z : Sizes) (s t g : ℕ) (out : List ℕ) (is : IsTrack z s t) (image 
       from : track-number (shape z) (set-of s) t * l ≡ g * l
       from = ap (λ v. v * l) (sym (n .is))
 
--- ## The tails of a set's data tracks
+-- ## The tails of a set's tracks
 
 -- Those before t are cleared, and `need` is 16 or at most t: 0, or one more than a track before t.
 pub record Clearing (z : Sizes) (s : TrackSet) (f : TrackFlags) (t : ℕ) (before out : List ℕ) (need : ℕ) : Type 0 where

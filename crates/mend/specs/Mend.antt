@@ -58,12 +58,12 @@ pub record TailCleared (z : Sizes) (s : TrackSet) (t : ℕ) (before after : List
   pub was-zero : r ≡ false → (m : ℕ) → z .positions ≤ m → m < track-length (shape z) → cells (shape z) before s t m ≡ 0
   pub was-not : r ≡ true → ((m : ℕ) → z .positions ≤ m → m < track-length (shape z) → cells (shape z) before s t m ≡ 0) → ⊥
 
--- Of the data tracks of set s before n, those that are not flagged are 0 in the tail, but for track e - 1.
+-- Of the tracks of set s from 1 up to n, those that are not flagged are 0 in the tail, but for track e - 1.
 abbrev pub TailsBut : Sizes → TrackSet → TrackFlags → List ℕ → ℕ → ℕ → Type 0
 TailsBut z s f image n e = (t m : ℕ) → 1 ≤ t → t < n → f s t ≡ false → suc t ≢ e → z .positions ≤ m → m < track-length (shape z) →
     cells (shape z) image s t m ≡ 0
 
--- The tails of the data tracks of set s before n are 0 now. `need` is 0 where those that are not flagged were so before; else no
+-- The tails of the tracks of set s from 1 up to n are 0 now. `need` is 0 where those that are not flagged were so before; else no
 -- extra track e - 1 but need - 1 makes them so.
 pub record TailsCleared (z : Sizes) (s : TrackSet) (f : TrackFlags) (n : ℕ) (before after : List ℕ) (need : ℕ) : Type 0 where
   pub image : Image (shape z) after

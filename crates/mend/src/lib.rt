@@ -2,9 +2,9 @@
 use code::Sizes;
 use plans::Form;
 ghost use mathlib.Core.Path.{_≡_};
-ghost use Prim.Native.Nat.{ℕ, suc, _+_, _*_, _<_, _≤_};
+ghost use Prim.Native.Nat.{ℕ, _+_, _*_, _<_, _≤_};
 ghost use lib.ListN.{length};
-ghost use Rattle.code.specs.Record.{TrackSet, data-tracks, track-length};
+ghost use Rattle.code.specs.Record.{TrackSet, track-length, tail-tracks};
 ghost use Rattle.code.specs.Image.{all-tracks};
 ghost use Rattle.code.specs.Sizes.{shape, Small};
 ghost use Rattle.code.proofs.OneTrack.{put};
@@ -157,20 +157,20 @@ fn clear_tail(out: &mut [u8], z: Sizes, s: usize, t: usize) -> bool
     true
 }
 
-// Clears the tails of the data tracks of set s. 0, if those without a mark were 0; t + 1, if track t alone of them was not; 16, if
+// Clears the tails of set s that rule 4 makes 0. 0, if those without a mark were 0; t + 1, if track t alone of them was not; 16, if
 // more were not.
 pub fn clear_tails(z: Sizes, marks: &[u8], out: &mut [u8], s: usize) -> usize
     requires { ⌜ Small z ⌝ }
     requires { ⌜ s < 2 ⌝ }
     requires { ⌜ all-tracks (shape z) ≤ length (now marks) ⌝ }
     requires { ⌜ Image (shape z) (now out) ⌝ }
-    ensures { λ r. ⌜ TailsCleared z (set-of s) (marked (shape z) (now (marks .entry))) (suc (data-tracks (shape z) (set-of s))) (now (out .entry)) (now (out .exit)) r ⌝ }
+    ensures { λ r. ⌜ TailsCleared z (set-of s) (marked (shape z) (now (marks .entry))) (tail-tracks (shape z) (set-of s)) (now (out .entry)) (now (out .exit)) r ⌝ }
 {
     let first = syndrome::track_number(z, s, 0);
-    let count = syndrome::data_tracks(z, s);
+    let count = syndrome::tail_tracks(z, s);
     let mut need = 0;
     let mut t = 1;
-    while t <= count {
+    while t < count {
         if clear_tail(out, z, s, t) {
             if marks[first + t] != 1 {
                 if need == 0 {

@@ -5,7 +5,7 @@ use mathlib.Core.Bool.{true, false}
 use mathlib.Core.List.{List, [], _∷_}
 use Prim.Native.Nat.{ℕ, zero, suc, _<_, _≤_}
 use lib.Dec.{ltb}
-use Rattle.code.specs.Record.{TrackSet, A, B, Shape, data-tracks, tracks, track-length}
+use Rattle.code.specs.Record.{TrackSet, A, B, Closing, closed-tail, open-tail, Shape, data-tracks, tracks, track-length, vertical-end}
 use Rattle.code.specs.Flags.{TrackFlags, flag-count, Within}
 use Rattle.code.specs.Reach.{pick}
 use Rattle.code.specs.Sizes.{shape}
@@ -49,10 +49,22 @@ pub record Inserted (x : Three) (e : ℕ) (r : Three) : Type 0 where
 -- ## Of both sets
 
 -- The pivot of a set whose highest flagged track is e - 1, and the cells up to which it may be wrong; the vertical track, where e is 0.
-abbrev pub pivot-at : Shape → ℕ → TrackSet → ℕ → Pivot
-pivot-at sh end s zero = record { track = suc (data-tracks sh s); room = 0 }
-pivot-at sh end s (suc zero) = record { track = 0; room = track-length sh }
-pivot-at sh end s (suc (suc t)) = record { track = suc t; room = pick (ltb t (data-tracks sh s)) (sh .positions) end }
+-- Where the tail is open track 0 is no pivot, since its tail is on no vertical: then the vertical track is, and track 0 below it.
+abbrev pub lone-zero : Closing → Shape → TrackSet → Pivot
+lone-zero closed-tail sh s = record { track = 0; room = track-length sh }
+lone-zero open-tail sh s = record { track = suc (data-tracks sh s); room = 0 }
+
+abbrev pub pivot-at : Shape → TrackSet → ℕ → Pivot
+pivot-at sh s zero = record { track = suc (data-tracks sh s); room = 0 }
+pivot-at sh s (suc zero) = lone-zero (sh .closing) sh s
+pivot-at sh s (suc (suc t)) = record { track = suc t; room = pick (ltb t (data-tracks sh s)) (sh .positions) (vertical-end sh) }
+
+-- The highest track below the pivot, 0 for none and t + 1 for track t, where h - 1 is the highest flagged track and m - 1 the second.
+abbrev pub second-at : Closing → ℕ → ℕ → ℕ
+second-at closed-tail h m = m
+second-at open-tail zero m = m
+second-at open-tail (suc zero) m = 1
+second-at open-tail (suc (suc h)) m = m
 
 -- The pivot of a set, and the cells up to which it may be wrong.
 abbrev pub pivot : Form → TrackSet → ℕ
@@ -83,13 +95,13 @@ lows-in (suc (suc k)) s v q u c = join (of-set q c (u ∷ [])) (of-set s c (v �
 abbrev pub lows : Form → TrackSet → List ℕ
 lows p c = lows-in (p .below) (set-of (p .s)) (p .v) (set-of (p .q)) (p .u) c
 
--- How far the pivot j of set c may be wrong: nowhere if it is not flagged, as a data track before the tail, as track 0 everywhere, as the
--- vertical track as far as rule 3 goes.
-pub data Room (sh : Shape) (end : ℕ) (f : TrackFlags) (c : TrackSet) (j r : ℕ) : Type 0 where
-  no-pivot : j ≡ suc (data-tracks sh c) → f c j ≡ false → r ≡ 0 → Room sh end f c j r
-  data-pivot : 1 ≤ j → j ≤ data-tracks sh c → f c j ≡ true → r ≡ sh .positions → Room sh end f c j r
-  zero-pivot : j ≡ 0 → f c j ≡ true → r ≡ track-length sh → Room sh end f c j r
-  vertical-pivot : j ≡ suc (data-tracks sh c) → f c j ≡ true → r ≡ end → Room sh end f c j r
+-- How far the pivot j of set c may be wrong: nowhere if it is not flagged, as a data track before the tail, as track 0 of a closed
+-- tail everywhere, as the vertical track as far as rule 3 goes.
+pub data Room (sh : Shape) (f : TrackFlags) (c : TrackSet) (j r : ℕ) : Type 0 where
+  no-pivot : j ≡ suc (data-tracks sh c) → f c j ≡ false → r ≡ 0 → Room sh f c j r
+  data-pivot : 1 ≤ j → j ≤ data-tracks sh c → f c j ≡ true → r ≡ sh .positions → Room sh f c j r
+  zero-pivot : j ≡ 0 → f c j ≡ true → r ≡ track-length sh → vertical-end sh ≡ track-length sh → Room sh f c j r
+  vertical-pivot : j ≡ suc (data-tracks sh c) → f c j ≡ true → r ≡ vertical-end sh → Room sh f c j r
 
 -- The numbers of a form: tracks of the sets, in order. Two and two: v is in the set with fewer data tracks.
 pub record Sized (sh : Shape) (p : Form) : Type 0 where
@@ -100,13 +112,13 @@ pub record Sized (sh : Shape) (p : Form) : Type 0 where
   pub fewer : 2 ≤ p .below → p .q ≢ p .s → data-tracks sh (set-of (p .s)) ≤ data-tracks sh (set-of (p .q))
 
 -- A form has the flagged tracks of both sets, and no others but the pivot of a set without any.
-pub record Fits (sh : Shape) (end : ℕ) (f : TrackFlags) (p : Form) : Type 0 where
+pub record Fits (sh : Shape) (f : TrackFlags) (p : Form) : Type 0 where
   pub sized : Sized sh p
   pub clear : (c : TrackSet) (t : ℕ) → t < tracks sh c → Off t (pivot p c ∷ lows p c) → f c t ≡ false
   pub v-flagged : 1 ≤ p .below → f (set-of (p .s)) (p .v) ≡ true
   pub u-flagged : 2 ≤ p .below → f (set-of (p .q)) (p .u) ≡ true
-  pub rooms : (c : TrackSet) → Room sh end f c (pivot p c) (room p c)
+  pub rooms : (c : TrackSet) → Room sh f c (pivot p c) (room p c)
 
 -- A form for the flagged tracks x of A and y of B, where they are within the limit.
-pub record Formed (z : Sizes) (end : ℕ) (x y : Three) (p : Form) : Type 0 where
-  pub fits : (f : TrackFlags) → Within (shape z) f → ThreeOf (shape z) f A x → ThreeOf (shape z) f B y → Fits (shape z) end f p
+pub record Formed (z : Sizes) (x y : Three) (p : Form) : Type 0 where
+  pub fits : (f : TrackFlags) → Within (shape z) f → ThreeOf (shape z) f A x → ThreeOf (shape z) f B y → Fits (shape z) f p

@@ -8,7 +8,7 @@ ghost use Rattle.code.specs.Flags.{flag-count};
 ghost use Rattle.code.specs.Sizes.{shape, Small};
 ghost use Rattle.syndrome.specs.Syndrome.{set-of};
 ghost use Rattle.solver.specs.Solver.{marked};
-ghost use Rattle.plans.specs.Plans.{ThreeOf, Inserted, pivot-at, Sorted, Formed};
+ghost use Rattle.plans.specs.Plans.{ThreeOf, Inserted, pivot-at, second-at, Sorted, Formed};
 
 // The flagged tracks of a set, the highest first: 0 for none, t + 1 for track t.
 pub struct Three {
@@ -87,11 +87,11 @@ pub struct Form {
     pub u: usize,
 }
 
-// The pivot of a set whose highest flagged track is e - 1; the vertical track, where e is 0.
-fn pivot_of(z: Sizes, end: usize, s: usize, e: usize) -> Pivot
+// The pivot of a set whose highest flagged track is e - 1; the vertical track, where e is 0, and where the tail is open and e is 1.
+fn pivot_of(z: Sizes, s: usize, e: usize) -> Pivot
     requires { ⌜ Small z ⌝ }
     requires { ⌜ s < 2 ⌝ }
-    ensures { λ r. ⌜ r ≡ pivot-at (shape z) end (set-of s) e ⌝ }
+    ensures { λ r. ⌜ r ≡ pivot-at (shape z) (set-of s) e ⌝ }
 {
     let count = syndrome::data_tracks(z, s);
     if e == 0 {
@@ -101,9 +101,15 @@ fn pivot_of(z: Sizes, end: usize, s: usize, e: usize) -> Pivot
         };
     }
     if e == 1 {
+        if z.closed {
+            return Pivot {
+                track: 0,
+                room: z.positions + (z.t1 + z.t2 + 1),
+            };
+        }
         return Pivot {
-            track: 0,
-            room: z.positions + (z.t1 + z.t2 + 1),
+            track: count + 1,
+            room: 0,
         };
     }
     if e - 2 < count {
@@ -114,19 +120,31 @@ fn pivot_of(z: Sizes, end: usize, s: usize, e: usize) -> Pivot
     }
     Pivot {
         track: e - 1,
-        room: end,
+        room: syndrome::vertical_end(z),
     }
 }
 
-// The form of the flagged tracks x of A and y of B. Rule 3 holds before `end`.
-pub fn form_of(z: Sizes, end: usize, x: Three, y: Three) -> Form
+// The highest track below a set's pivot: 0 for none, t + 1 for track t.
+fn second_of(z: Sizes, x: Three) -> usize
+    ensures { λ r. ⌜ r ≡ second-at (shape z .closing) (x .high) (x .middle) ⌝ }
+{
+    if x.high == 1 {
+        if !z.closed {
+            return 1;
+        }
+    }
+    x.middle
+}
+
+// The form of the flagged tracks x of A and y of B.
+pub fn form_of(z: Sizes, x: Three, y: Three) -> Form
     requires { ⌜ Small z ⌝ }
     requires { ⌜ Sorted x ⌝ }
     requires { ⌜ Sorted y ⌝ }
-    ensures { λ r. ⌜ Formed z end x y r ⌝ }
+    ensures { λ r. ⌜ Formed z x y r ⌝ }
 {
-    let a = pivot_of(z, end, 0, x.high);
-    let b = pivot_of(z, end, 1, y.high);
+    let a = pivot_of(z, 0, x.high);
+    let b = pivot_of(z, 1, y.high);
     if x.low != 0 {
         return Form {
             a,
@@ -149,8 +167,10 @@ pub fn form_of(z: Sizes, end: usize, x: Three, y: Three) -> Form
             u: y.middle - 1,
         };
     }
-    if x.middle == 0 {
-        if y.middle == 0 {
+    let i = second_of(z, x);
+    let j = second_of(z, y);
+    if i == 0 {
+        if j == 0 {
             return Form {
                 a,
                 b,
@@ -166,18 +186,18 @@ pub fn form_of(z: Sizes, end: usize, x: Three, y: Three) -> Form
             b,
             below: 1,
             s: 1,
-            v: y.middle - 1,
+            v: j - 1,
             q: 0,
             u: 0,
         };
     }
-    if y.middle == 0 {
+    if j == 0 {
         return Form {
             a,
             b,
             below: 1,
             s: 0,
-            v: x.middle - 1,
+            v: i - 1,
             q: 0,
             u: 0,
         };
@@ -188,9 +208,9 @@ pub fn form_of(z: Sizes, end: usize, x: Three, y: Three) -> Form
             b,
             below: 2,
             s: 1,
-            v: y.middle - 1,
+            v: j - 1,
             q: 0,
-            u: x.middle - 1,
+            u: i - 1,
         };
     }
     Form {
@@ -198,8 +218,8 @@ pub fn form_of(z: Sizes, end: usize, x: Three, y: Three) -> Form
         b,
         below: 2,
         s: 0,
-        v: x.middle - 1,
+        v: i - 1,
         q: 1,
-        u: y.middle - 1,
+        u: j - 1,
     }
 }

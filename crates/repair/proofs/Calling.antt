@@ -1,5 +1,6 @@
 -- The calls: their checks, the part of the output that is worked on, and marks in place of flags.
 use mathlib.Core.Path.{_≡_, refl, sym, _∙_}
+use mathlib.Core.Bool.{true}
 use mathlib.Core.Logic.{_≢_, inl, inr}
 use mathlib.Core.List.{List, [], _∷_, _++_}
 use Prim.Native.Nat.{ℕ, _*_, _≤_}
@@ -17,6 +18,7 @@ use Rattle.code.specs.Contracts.{call-flags, Repaired}
 use Rattle.code.specs.Sizes.{Small}
 use Rattle.code.specs.declared.Sizes.{Sizes}
 use Rattle.code.proofs.Lost.{none-lost}
+use Rattle.code.proofs.Codes.{code-within}
 use Rattle.code.proofs.Numbers.{first-after, passed-both}
 use Rattle.code.proofs.Outputs.{repair-all, mended-as}
 use Rattle.code.proofs.Same.{SameFlags, code-same}
@@ -58,7 +60,7 @@ right sh n word image room p = image-right read-values n (image-size sh) image (
 
 -- The sizes of a call.
 abbrev pub sizes : ℕ → Sizes
-sizes n = record { t1 = 7; t2 = 7; positions = 8 * n }
+sizes n = record { t1 = 7; t2 = 7; positions = 8 * n; closed = true }
 
 -- ## Flags that say the same
 
@@ -108,7 +110,7 @@ module _ (n word : ℕ) (image out : List ℕ) (p : Passed (early-checks read-va
         covered = λ s t k l b e. none-lost (base n) (word-flags (base n) word) image s t k (sym (m .flags s t l) ∙ e) b;
         out-has = length-take-le size out (i .sizes .fits);
         marks-size = m .size;
-        coded = c;
+        within = code-within (base n) by-marks refl c;
       }
 
   module _ (r : Result) where

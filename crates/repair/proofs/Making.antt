@@ -5,7 +5,7 @@ use mathlib.Core.Bool.{Bool, true, false, true≢false}
 use mathlib.Core.List.{List, []}
 use Prim.Native.Nat.{ℕ}
 use lib.ListN.{length}
-use Rattle.code.specs.Record.{TrackSet, track-length}
+use Rattle.code.specs.Record.{TrackSet, track-length, vertical-end}
 use Rattle.code.specs.Sizes.{shape}
 use Rattle.code.specs.declared.Sizes.{Sizes}
 use Rattle.plans.specs.declared.Form.{Form}
@@ -19,8 +19,8 @@ pub start-quiet : (z : Sizes) (rows : List ℕ) (start : ℕ) → StartOf (track
 start-quiet z rows start w = record { zero = w .zero }
 
 -- What was said of the errors found.
-pub found-as : (z : Sizes) (end : ℕ) (p : Form) (rows words : List ℕ) (r r′ : Bool) → r ≡ r′ → Found z end p rows words r → Found z end p rows words r′
-found-as z end p rows words r r′ e = subst (Found z end p rows words) e
+pub found-as : (z : Sizes) (end end′ : ℕ) (p : Form) (rows words : List ℕ) (r r′ : Bool) → end ≡ end′ → r ≡ r′ → Found z end p rows words r → Found z end′ p rows words r′
+found-as z end end′ p rows words r r′ d e w = subst (λ k. Found z k p rows words r′) d (subst (Found z end p rows words) e w)
 
 module _ (z : Sizes) (need : Needs) (p : Form) (rows out : List ℕ) where
   -- An extra track is needed.
@@ -35,7 +35,7 @@ module _ (z : Sizes) (need : Needs) (p : Form) (rows out : List ℕ) where
   }
 
   -- A test failed.
-  pub made-failed : (words : List ℕ) → Found z (track-length (shape z)) p rows words false → MadeGood z need p rows out out false
+  pub made-failed : (words : List ℕ) → Found z (vertical-end (shape z)) p rows words false → MadeGood z need p rows out out false
   made-failed words w = record {
     size = refl;
     words = words;
@@ -45,7 +45,7 @@ module _ (z : Sizes) (need : Needs) (p : Form) (rows out : List ℕ) where
     failed = λ e all. w;
   }
 
-  pub made-all : ((s : TrackSet) → need-of need s ≡ 0) → (words after : List ℕ) → Found z (track-length (shape z)) p rows words true → length after ≡ length out →
+  pub made-all : ((s : TrackSet) → need-of need s ≡ 0) → (words after : List ℕ) → Found z (vertical-end (shape z)) p rows words true → length after ≡ length out →
       Added z (errors-in p words) out after → MadeGood z need p rows out after true
   made-all none words after w l a = record {
     size = l;

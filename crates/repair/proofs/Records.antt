@@ -6,14 +6,13 @@ use mathlib.Core.List.{List}
 use Prim.Native.Nat.{ℕ}
 use native.Mathlib.Decide.{ℕ-discrete}
 use native.Mathlib.Omega.{arith}
-use Rattle.code.specs.Record.{TrackSet, A, B, Shape, tracks, track-length, Cells, Good}
+use Rattle.code.specs.Record.{TrackSet, A, B, Shape, Cells, Good}
 use Rattle.code.specs.Image.{image-size, cells}
-use Rattle.code.specs.Flags.{TrackFlags, whole, AgreeOff, Within}
+use Rattle.code.specs.Flags.{TrackFlags, whole, AgreeOff}
 use Rattle.code.specs.Reach.{none}
 use Rattle.code.specs.Calls.{Result, plain, mended, Repairs}
 use Rattle.code.specs.Sizes.{shape}
 use Rattle.code.specs.declared.Sizes.{Sizes}
-use Rattle.code.proofs.Codes.{code-within}
 use Rattle.code.proofs.Front.{stays-all}
 use Rattle.code.proofs.Outputs.{agree-on, not-found}
 use Rattle.track.specs.Track.{known}
@@ -37,13 +36,9 @@ module _ (z : Sizes) (marks image out : List ℕ) (given : Given z marks image o
   pub covered : (g : TrackFlags) → ((s : TrackSet) (t : ℕ) → g s t ≡ false → f s t ≡ false) → LostCovered sh (whole g) image
   covered g less s t m l b e = given .covered s t m l b (less s t e)
 
-  -- The flags are within the limit.
-  pub given-within : Within sh f
-  given-within = code-within sh f refl (given .coded)
-
   -- ## Repair
 
-  module _ (copy words : List ℕ) (need : Needs) (prepared : Prepared z f (known image) copy words need) (p : Form) (fits : Fits sh (track-length sh) f p)
+  module _ (copy words : List ℕ) (need : Needs) (prepared : Prepared z f (known image) copy words need) (p : Form) (fits : Fits sh f p)
       (after : List ℕ) (r : Bool) (made : MadeGood z need p words copy after r) where
     found-there : r ≡ true → AgreeOff sh (whole f) (cells sh image) (cells sh after)
     found-there h = agree-on sh (whole f) (copy-agree sh (whole f) image (covered f (λ s t e. e)))

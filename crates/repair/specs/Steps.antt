@@ -3,13 +3,13 @@ use mathlib.Core.Path.{_≡_}
 use mathlib.Core.Logic.{_≢_}
 use mathlib.Core.Bool.{Bool, true, false}
 use mathlib.Core.List.{List}
-use Prim.Native.Nat.{ℕ, suc, _+_, _<_, _≤_}
+use Prim.Native.Nat.{ℕ, _+_, _<_, _≤_}
 use lib.ListN.{length}
-use Rattle.code.specs.Record.{TrackSet, A, B, data-tracks, tracks, track-length}
+use Rattle.code.specs.Record.{TrackSet, A, B, tracks, track-length, vertical-end, tail-tracks}
 use Rattle.code.specs.Image.{image-size, cells}
-use Rattle.code.specs.Flags.{TrackFlags}
+use Rattle.code.specs.Flags.{TrackFlags, Within}
 use Rattle.code.specs.Lost.{is-lost}
-use Rattle.code.specs.Reach.{flags-code, Extra}
+use Rattle.code.specs.Reach.{Extra}
 use Rattle.code.specs.Sizes.{shape, Small}
 use Rattle.code.specs.declared.Sizes.{Sizes}
 use Rattle.syndrome.specs.Syndrome.{row-of, Image}
@@ -33,17 +33,17 @@ abbrev pub need-of : Needs → TrackSet → ℕ
 need-of need A = need .a
 need-of need B = need .b
 
--- A working copy with its sums: it is the image, a list of bits, but that its data tracks are 0 in the tail. The needs say which extra
--- tracks explain tails that were not.
+-- A working copy with its sums: it is the image, a list of bits, but that its tails are 0 where rule 4 makes them so. The needs say which
+-- extra tracks explain tails that were not.
 pub record Prepared (z : Sizes) (f : TrackFlags) (image out words : List ℕ) (need : Needs) : Type 0 where
   pub small : Small z
   pub copy : Image (shape z) out
   pub sums-in : SumsIn z out words
   pub tails : Tails (shape z) (cells (shape z) out)
-  pub same : (s : TrackSet) (t m : ℕ) → t < tracks (shape z) s → m < track-length (shape z) → (1 ≤ t → t ≤ data-tracks (shape z) s → z .positions ≤ m → ⊥) →
+  pub same : (s : TrackSet) (t m : ℕ) → t < tracks (shape z) s → m < track-length (shape z) → (1 ≤ t → t < tail-tracks (shape z) s → z .positions ≤ m → ⊥) →
       cells (shape z) out s t m ≡ cells (shape z) image s t m
-  pub fits : (s : TrackSet) (e : ℕ) → e ≤ 9 → (need-of need s ≢ 0 → need-of need s ≡ e) → TailsBut z s f image (suc (data-tracks (shape z) s)) e
-  pub fails : (s : TrackSet) (e : ℕ) → e ≤ 9 → need-of need s ≢ 0 → need-of need s ≢ e → TailsBut z s f image (suc (data-tracks (shape z) s)) e → ⊥
+  pub fits : (s : TrackSet) (e : ℕ) → e ≤ 9 → (need-of need s ≢ 0 → need-of need s ≡ e) → TailsBut z s f image (tail-tracks (shape z) s) e
+  pub fails : (s : TrackSet) (e : ℕ) → e ≤ 9 → need-of need s ≢ 0 → need-of need s ≢ e → TailsBut z s f image (tail-tracks (shape z) s) e → ⊥
 
 -- ## One set of flags
 
@@ -56,9 +56,9 @@ pub record MadeGood (z : Sizes) (need : Needs) (p : Form) (rows before after : L
   pub size : length after ≡ length before
   pub words : List ℕ
   pub none-needed : r ≡ true → (s : TrackSet) → need-of need s ≡ 0
-  pub found : r ≡ true → Found z (track-length (shape z)) p rows words true
+  pub found : r ≡ true → Found z (vertical-end (shape z)) p rows words true
   pub added : r ≡ true → Added z (errors-in p words) before after
-  pub failed : r ≡ false → ((s : TrackSet) → need-of need s ≡ 0) → Found z (track-length (shape z)) p rows words false
+  pub failed : r ≡ false → ((s : TrackSet) → need-of need s ≡ 0) → Found z (vertical-end (shape z)) p rows words false
 
 -- The extras that an answer has.
 abbrev pub names : Extra → Extra → TrackSet → Extra
@@ -67,7 +67,7 @@ names a b B = b
 
 -- ## Whole records
 
--- An image, an output of its size, and marks that have a code and leave no lost cell unmarked.
+-- An image, an output of its size, and marks that are within the limit and leave no lost cell unmarked.
 pub record Given (z : Sizes) (marks image out : List ℕ) : Type 0 where
   pub small : Small z
   pub image-is : ReadImage (shape z) image
@@ -75,4 +75,4 @@ pub record Given (z : Sizes) (marks image out : List ℕ) : Type 0 where
       is-lost (cells (shape z) image s t m) ≡ false
   pub out-has : length out ≡ image-size (shape z)
   pub marks-size : length marks ≡ 18
-  pub coded : flags-code (shape z) (marked (shape z) marks) ≢ 0
+  pub within : Within (shape z) (marked (shape z) marks)

@@ -92,7 +92,7 @@ fn load_sums(z: Sizes, out: &[u8], rows: &mut [u64])
     }
 }
 
-// Makes a working copy of the image, whose data tracks are 0 in the tail, and loads its sums.
+// Makes a working copy of the image, whose tails are 0 where rule 4 makes them so, and loads its sums.
 pub fn prepare(z: Sizes, marks: &[u8], image: &[u8], out: &mut [u8], rows: &mut [u64]) -> Needs
     requires { ⌜ Small z ⌝ }
     requires { ⌜ ReadImage (shape z) (now image) ⌝ }
@@ -150,8 +150,9 @@ fn make_good(z: Sizes, need: Needs, p: Form, out: &mut [u8], rows: &[u64]) -> bo
         return false;
     }
     let start = mend::find_start(rows, l);
+    let end = syndrome::vertical_end(z);
     let mut found = [0u64; 171];
-    if !errors::find(rows, &mut found, z, l, p, start) {
+    if !errors::find(rows, &mut found, z, end, p, start) {
         return false;
     }
     mend::add_errors(out, z, p, &found);
@@ -163,12 +164,11 @@ fn repair_record(z: Sizes, marks: [u8; 18], image: &[u8], out: &mut [u8]) -> Ans
     requires { ⌜ Given z marks (now image) (now out) ⌝ }
     ensures { λ r. ⌜ Repairs (shape z) (whole (marked (shape z) marks)) (now (image .entry)) (now (out .entry)) (result-of r) (now (out .exit)) ⌝ }
 {
-    let l = z.positions + (z.t1 + z.t2 + 1);
     let mut rows = [0u64; 137];
     let need = prepare(z, &marks, image, out, &mut rows);
     let x = plans::find_three(&marks, z, 0);
     let y = plans::find_three(&marks, z, 1);
-    let p = plans::form_of(z, l, x, y);
+    let p = plans::form_of(z, x, y);
     if make_good(z, need, p, out, &rows) {
         return answer_of(z, &marks, image, out, Extra::None, Extra::None);
     }
@@ -190,6 +190,7 @@ pub fn repair(blocks: u32, flags: u32, image: &[u8], out: &mut [u8]) -> Answer
         t1: 7,
         t2: 7,
         positions: 8 * n,
+        closed: true,
     };
     let marks = flags::call_marks(z, flags, image, seen.lost);
     if flags::code_of(z, &marks) == 0 {

@@ -5,11 +5,11 @@ use mathlib.Core.List.{List}
 use Prim.Native.Nat.{ℕ, _+_, _<_}
 use native.Mathlib.Decide.{decLt}
 use native.Mathlib.Omega.{arith}
-use Rattle.code.specs.Record.{track-length, Cells, Good}
+use Rattle.code.specs.Record.{vertical-end, Cells, Good}
 use Rattle.code.specs.Image.{cells}
 use Rattle.code.specs.Sizes.{shape}
 use Rattle.code.specs.declared.Sizes.{Sizes}
-use Rattle.code.proofs.Cell.{by-vertical}
+use Rattle.code.proofs.Cell.{vertical-within, by-vertical}
 use Rattle.syndrome.specs.Syndrome.{set-of, Kept}
 use Rattle.solver.specs.Steps.{ByVertical, Others, Ahead}
 use Rattle.solver.proofs.Settling.{RightCell, right-cell}
@@ -26,7 +26,7 @@ ahead-none k = record {
 }
 
 -- By the vertical at p.
-pub ahead-more : {z : Sizes} {s t from p : ℕ} {o₀ o₁ o₂ n₁ n₂ : List ℕ} → p < track-length (shape z) → Ahead z s t from p o₀ o₁ n₁ →
+pub ahead-more : {z : Sizes} {s t from p : ℕ} {o₀ o₁ o₂ n₁ n₂ : List ℕ} → p < vertical-end (shape z) → Ahead z s t from p o₀ o₁ n₁ →
     ByVertical z s t p o₁ o₂ n₂ → Ahead z s t from (p + 1) o₀ o₂ n₂
 ahead-more {z} {s} {t} {from} {p} {o₀} {o₁} {o₂} h v w = record {
   kept = w .kept;
@@ -34,7 +34,7 @@ ahead-more {z} {s} {t} {from} {p} {o₀} {o₁} {o₂} h v w = record {
   only = λ r u q l b n. w .there r u q l b (λ i j k. n i j (omega (arith, v .order)) (omega arith)) ∙ v .only r u q l b (λ i j a c. n i j a (omega arith));
   still = λ y g rest. still-both (v .still y g (old y rest)) (now y g rest .still);
   right = λ y g rest l q a b. by-cases (decLt q p)
-      (λ k. now y g rest .still .cell (set-of s) t q l (omega arith) (v .right y g (old y rest) l q a k))
+      (λ k. now y g rest .still .cell (set-of s) t q l (omega (arith, vertical-within (shape z))) (v .right y g (old y rest) l q a k))
       (λ k. let e : q ≡ p = omega arith in rw e (now y g rest .cell l));
 }
   where
@@ -45,5 +45,5 @@ ahead-more {z} {s} {t} {from} {p} {o₀} {o₁} {o₂} h v w = record {
     now y g rest = right-cell y w (λ l. (
       l,
       by-vertical (shape z) (cells (shape z) o₁) y g (set-of s) t p l h
-          (λ u i d. v .only (set-of s) u p i h (λ _ e _ _. d e) ∙ rest u p i (v .order) (omega arith) d),
+          (λ u i d. v .only (set-of s) u p i (omega (arith, vertical-within (shape z))) (λ _ e _ _. d e) ∙ rest u p i (v .order) (omega arith) d),
     ))

@@ -1,7 +1,7 @@
 -- One set is solved at one position: the plan's tracks one after the other.
 use mathlib.Core.Path.{_≡_, _∙_}
 use mathlib.Core.Logic.{_≢_, by-cases}
-use mathlib.Core.Bool.{false}
+use mathlib.Core.Bool.{true, false}
 use mathlib.Core.List.{List}
 use Prim.Native.Nat.{ℕ, zero, suc, _+_, _-_, _<_, _≤_, _%_}
 use native.Mathlib.Decide.{ℕ-discrete, decLt}
@@ -12,7 +12,8 @@ use Rattle.code.specs.Image.{cells}
 use Rattle.code.specs.Flags.{TrackFlags}
 use Rattle.code.specs.Sizes.{shape}
 use Rattle.code.specs.declared.Sizes.{Sizes}
-use Rattle.code.proofs.Cell.{by-vertical}
+use Rattle.code.proofs.Closings.{is-closed, closed-end}
+use Rattle.code.proofs.Cell.{vertical-data, tail-data, by-vertical}
 use Rattle.code.proofs.Solving.{check-track, lowest-cell, highest-cell}
 use Rattle.syndrome.specs.Syndrome.{set-of}
 use Rattle.solver.specs.declared.Plan.{Plan}
@@ -101,29 +102,29 @@ stepped-data {z} {s} {p} {m} {o₀} {o₁} {o₂} {o₃} b v w u = stepped v w u
     let w′ = right-cell y w (high-cell sh f y good c p fits m (cells sh o₁) b (still-known (omega arith) (v′ .still) known)) in
     let e = rest-cells sh f y c p m (cells sh o₀) (cells sh o₁) (cells sh o₂) (omega arith) known v′ w′ in
     all-cells sh f y c p m (cells sh o₀) (cells sh o₁) (cells sh o₂) (omega arith) known v′ w′ (cells sh o₃)
-    (right-cell y u (λ l. (l, by-vertical sh (cells sh o₂) y good c (p .last) m l (omega arith) e))))
+    (right-cell y u (λ l. (l, by-vertical sh (cells sh o₂) y good c (p .last) m l (omega (arith, vertical-data sh)) e))))
 
 -- A cell of the tail.
-tail-cell : (z : Sizes) (x y : Cells) → Good (shape z) y → (s : TrackSet) (t m : ℕ) → z .positions ≤ m → m < track-length (shape z) →
+tail-cell : (z : Sizes) (x y : Cells) → z .closed ≡ true → Good (shape z) y → (s : TrackSet) (t m : ℕ) → z .positions ≤ m → m < track-length (shape z) →
     ((c : TrackSet) (u q : ℕ) → u < tracks (shape z) c → q < m → x c u q ≡ y c u q) → t < tracks (shape z) s →
     (t ≡ suc (data-tracks (shape z) s) → (u : ℕ) → u < tracks (shape z) s → u ≢ t → x s u m ≡ y s u m) →
     y s t m ≡ (x s t m + tail-sum (shape z) x s t m) % 2
 unfolding tail-sum
-tail-cell z x y good s zero m k b before l rest = check-track (shape z) x y good m before b s
-tail-cell z x y good s (suc t) m k b before l rest = by-cases (decLt t (data-tracks (shape z) s))
-    (λ h. rw (lt-ltb _ _ h) (omega (arith, good .tail s (suc t) m (omega arith) (omega arith) k b)))
-    (λ h. rw (le-ltb t (data-tracks (shape z) s) (omega arith)) (by-vertical (shape z) x y good s (suc t) m l b (rest (omega arith))))
+tail-cell z x y closed good s zero m k b before l rest = check-track (shape z) x y good m before b s
+tail-cell z x y closed good s (suc t) m k b before l rest = by-cases (decLt t (data-tracks (shape z) s))
+    (λ h. rw (lt-ltb _ _ h) (omega (arith, good .tail s (suc t) m (omega arith) (omega (arith, tail-data (shape z) s)) k b)))
+    (λ h. rw (le-ltb t (data-tracks (shape z) s) (omega arith)) (by-vertical (shape z) x y good s (suc t) m l (omega (arith, closed-end (shape z) (is-closed z closed))) (rest (omega arith))))
 
 -- A position of the tail.
-pub stepped-tail : {z : Sizes} {s : ℕ} {p : Plan} {m : ℕ} {o₀ o₁ o₂ o₃ n₁ n₂ n₃ : List ℕ} → z .positions ≤ m → m < track-length (shape z) →
+pub stepped-tail : {z : Sizes} {s : ℕ} {p : Plan} {m : ℕ} {o₀ o₁ o₂ o₃ n₁ n₂ n₃ : List ℕ} → z .closed ≡ true → z .positions ≤ m → m < track-length (shape z) →
     ByTail z s (p .low) m o₀ o₁ n₁ → ByTail z s (p .high) m o₁ o₂ n₂ → ByTail z s (p .last) m o₂ o₃ n₃ → Stepped z s p m o₀ o₃ n₃
-stepped-tail {z} {s} {p} {m} {o₀} {o₁} {o₂} {o₃} k b v w u = stepped v w u (λ f y fits good known.
+stepped-tail {z} {s} {p} {m} {o₀} {o₁} {o₂} {o₃} closed k b v w u = stepped v w u (λ f y fits good known.
     let sh : Shape = shape z in
     let c : TrackSet = set-of s in
-    let v′ = right-cell y v (λ l. (l, tail-cell z (cells sh o₀) y good c (p .low) m k b (known .before) l (λ e. absurd (omega (arith, fits .low-data l))))) in
+    let v′ = right-cell y v (λ l. (l, tail-cell z (cells sh o₀) y closed good c (p .low) m k b (known .before) l (λ e. absurd (omega (arith, fits .low-data l))))) in
     let known₁ = still-known b (v′ .still) known in
-    let w′ = right-cell y w (λ l. (l, tail-cell z (cells sh o₁) y good c (p .high) m k b (known₁ .before) l (λ e. absurd (omega (arith, fits .high-data l .1))))) in
+    let w′ = right-cell y w (λ l. (l, tail-cell z (cells sh o₁) y closed good c (p .high) m k b (known₁ .before) l (λ e. absurd (omega (arith, fits .high-data l .1))))) in
     let known₂ = still-known b (w′ .still) known₁ in
     let e = rest-cells sh f y c p m (cells sh o₀) (cells sh o₁) (cells sh o₂) b known v′ w′ in
     all-cells sh f y c p m (cells sh o₀) (cells sh o₁) (cells sh o₂) b known v′ w′ (cells sh o₃)
-    (right-cell y u (λ l. (l, tail-cell z (cells sh o₂) y good c (p .last) m k b (known₂ .before) l (λ _. e)))))
+    (right-cell y u (λ l. (l, tail-cell z (cells sh o₂) y closed good c (p .last) m k b (known₂ .before) l (λ _. e)))))

@@ -1,6 +1,8 @@
 // The steps of one position, for flags by stretch: the flagged cells of a set are made right by turning over those whose syndrome is not 0.
 use code::Sizes;
 use syndrome::Line;
+ghost use mathlib.Core.Path.{_≡_};
+ghost use mathlib.Core.Bool.{true};
 ghost use Prim.Native.Nat.{_+_, _*_, _<_, _≤_};
 ghost use lib.ListN.{length, getD};
 ghost use Rattle.code.specs.Record.{data-tracks, tracks, track-length};
@@ -232,9 +234,10 @@ pub fn step(
     last_at(out, syn, z, s, plan.last, last, m);
 }
 
-// Solves a set at a position of the tail.
+// Solves a set at a position of the tail, which is closed.
 pub fn tail_step(out: &mut [u8], syn: &mut [u8], z: Sizes, s: usize, plan: Plan, m: usize)
     requires { ⌜ Kept z (now out) (now syn) ⌝ }
+    requires { ⌜ z .closed ≡ true ⌝ }
     requires { ⌜ s < 2 ⌝ }
     requires { ⌜ z .positions ≤ m ⌝ }
     requires { ⌜ m < track-length (shape z) ⌝ }

@@ -1,6 +1,7 @@
 -- The call: its checks, and the part of the output that is worked on.
-use mathlib.Core.Path.{_≡_, ap, _∙_}
+use mathlib.Core.Path.{_≡_, refl, ap, _∙_}
 use mathlib.Core.Logic.{_≢_, inl, inr}
+use mathlib.Core.Bool.{true}
 use mathlib.Core.List.{List, [], _∷_, _++_}
 use Prim.Native.Nat.{ℕ, _*_, _≤_}
 use native.Mathlib.Omega.{arith}
@@ -24,7 +25,7 @@ use Rattle.spans.specs.Steps.{Tabled, CellsRepaired}
 
 -- The sizes of a call.
 abbrev pub sizes : ℕ → Sizes
-sizes n = record { t1 = 7; t2 = 7; positions = 8 * n }
+sizes n = record { t1 = 7; t2 = 7; positions = 8 * n; closed = true }
 
 module _ (n : ℕ) (table : Table) (image out : List ℕ) (r : Result) where
   abbrev flag : CellFlags
@@ -58,6 +59,7 @@ module _ (n : ℕ) (table : Table) (image : List ℕ) (room : ℕ) (p : Passed (
   pub tabled : Tabled (sizes n) table image
   tabled = record {
     small = record { t1-small = omega arith; t2-small = omega arith; positions-small = omega (arith, right .sizes .few) };
+    closed = refl;
     sound = passed-last (image-checks read-values n (image-size (base n)) image (image-size (base n)) room) (table-check (image-size (base n)) table) p;
     image-is = record { size = right .sizes .exact; readings = record { reading = right .cells } };
   }

@@ -1,5 +1,6 @@
 -- What the steps of repair with flags by stretch ask and give.
 use mathlib.Core.Path.{_≡_}
+use mathlib.Core.Bool.{true}
 use mathlib.Core.List.{List, [], _∷_}
 use Prim.Native.Nat.{ℕ, _<_}
 use lib.ListN.{length}
@@ -15,9 +16,10 @@ use Rattle.track.proofs.Lost.{LostCovered}
 use Rattle.flags.specs.Marks.{ReadImage}
 use Rattle.flags.specs.Words.{word-cells, Windows}
 
--- An image with a table of pairs that is not broken.
+-- An image with a table of pairs that is not broken. Stretches keep the closed tail.
 pub record Tabled (z : Sizes) (table : Table) (image : List ℕ) : Type 0 where
   pub small : Small z
+  pub closed : z .closed ≡ true
   pub sound : Broken (image-size (shape z)) table → ⊥
   pub image-is : ReadImage (shape z) image
 
@@ -29,6 +31,7 @@ pub record CellsFlagged (sh : Shape) (table : Table) (image words : List ℕ) : 
 -- An image, an output of its size, and flagged cells with their windows, the lost ones among them.
 pub record Given (z : Sizes) (words near image out : List ℕ) : Type 0 where
   pub small : Small z
+  pub closed : z .closed ≡ true
   pub image-is : ReadImage (shape z) image
   pub covered : LostCovered (shape z) (word-cells (shape z) words) image
   pub windows : Windows (shape z) words near

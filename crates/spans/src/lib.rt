@@ -196,6 +196,7 @@ pub fn repair_pairs(blocks: u32, pairs: &[[u32; 2]], image: &[u8], out: &mut [u8
         t1: 7,
         t2: 7,
         positions: 8 * n,
+        closed: true,
     };
     repair_record(z, pairs, image, seen.lost, &mut out[..18 * (8 * n + 15)])
 }

@@ -1,7 +1,7 @@
 -- From position to position: first the sets with one flagged cell, then all cells.
 use mathlib.Core.Path.{_≡_, refl, sym, _∙_}
 use mathlib.Core.Logic.{by-cases}
-use mathlib.Core.Bool.{Bool, false, true≢false}
+use mathlib.Core.Bool.{Bool, true, false, true≢false}
 use mathlib.Core.List.{List}
 use Prim.Native.Nat.{ℕ, _+_, _<_, _≤_}
 use native.Mathlib.Decide.{ℕ-discrete, decLt}
@@ -288,13 +288,13 @@ ones-word-run {z} {word} {marks = marks} small h m u v p r = record {
       ones-ahead h (λ q i l. one-same (marks-at z word marks small m words q (alike q i l)) u) (λ q i l. one-same (marks-at z word marks small m words q (alike q i l)) v) p r;
 }
 
-pub all-word-run : {z : Sizes} {word wide : ℕ} {a b : Plan} {from to : ℕ} {marks nears out after syn : List ℕ} → Small z → to ≤ track-length (shape z) →
+pub all-word-run : {z : Sizes} {word wide : ℕ} {a b : Plan} {from to : ℕ} {marks nears out after syn : List ℕ} → Small z → z .closed ≡ true → to ≤ track-length (shape z) →
     Marks word marks → Marks wide nears → PlanAt (shape z) (marked (shape z) marks) (marked (shape z) nears) A a →
     PlanAt (shape z) (marked (shape z) marks) (marked (shape z) nears) B b → AllRun z a b from to out after syn → AllWord z word wide from to out after syn
-all-word-run {z} {word} {wide} {a} {b} {marks = marks} {nears = nears} small h m n u v r = record {
+all-word-run {z} {word} {wide} {a} {b} {marks = marks} {nears = nears} small closed h m n u v r = record {
   kept = r .kept;
   advanced = λ words near w alike. r .advanced (word-cells (shape z) words) (λ s q i l.
-      suits-at z words near small w q (omega arith) (marked (shape z) marks) (marked (shape z) nears)
+      suits-at z words near small closed w q (omega arith) (marked (shape z) marks) (marked (shape z) nears)
       (marks-at z word marks small m words q (alike .word-at q i l)) (marks-at z wide nears small n near q (alike .near-at q i l)) s (plan-of a b s)
       (planned s)) (λ s e q i l.
       omega (

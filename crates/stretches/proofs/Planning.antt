@@ -15,6 +15,7 @@ use Rattle.code.specs.Image.{track-number, all-tracks}
 use Rattle.code.specs.Spans.{window}
 use Rattle.code.specs.Sizes.{shape, Small}
 use Rattle.code.specs.declared.Sizes.{Sizes}
+use Rattle.code.proofs.Closings.{is-closed}
 use Rattle.code.proofs.Codes.{code-within}
 use Rattle.code.proofs.Patterns.{none-flagged}
 use Rattle.code.proofs.Sums.{sum-zero, sum-le, sum-one}
@@ -217,10 +218,10 @@ beside-three sh f w A h = omega (arith, w .in-all)
 beside-three sh f w B h = omega (arith, w .in-all)
 
 -- A plan made of the marks of two words suits every position that has them.
-pub suits-at : (z : Sizes) (words near : List ℕ) → Small z → Windows (shape z) words near → (m : ℕ) → m < track-length (shape z) →
+pub suits-at : (z : Sizes) (words near : List ℕ) → Small z → z .closed ≡ true → Windows (shape z) words near → (m : ℕ) → m < track-length (shape z) →
     (f g : TrackFlags) → SameFlags (shape z) f (word-flags (shape z) (getD words m 0)) → SameFlags (shape z) g (word-flags (shape z) (getD near m 0)) →
     (s : TrackSet) (p : Plan) → PlanAt (shape z) f g s p → Suits (shape z) (word-cells (shape z) words) s m p
-suits-at z words near small w m b f g here wide s p plan = record {
+suits-at z words near small closed w m b f g here wide s p plan = record {
   window = g;
   clear = λ d c t q l e h k. clear-at z words near w m c t q l (sym (wide c t l) ∙ e) h (omega arith);
   fits = plan .fits;
@@ -230,7 +231,7 @@ suits-at z words near small w m b f g here wide s p plan = record {
     arith,
     count-below (shape z) (flags-at (word-cells (shape z) words) q) (word-flags (shape z) (getD near m 0)) (other s)
         (λ t l e. clear-at z words near w m (other s) t q l e i (omega arith)),
-    beside-three (shape z) (word-flags (shape z) (getD near m 0)) (code-within (shape z) _ refl (w .coded m b)) s
+    beside-three (shape z) (word-flags (shape z) (getD near m 0)) (code-within (shape z) _ (is-closed z closed) (w .coded m b)) s
         (omega (arith, plan .three h, count-same (shape z) g _ wide s)),
   );
 }
@@ -258,15 +259,15 @@ one-same {sh} {f} {g} {s} {t} same one = record {
 }
 
 -- The marks of a position and of its window are fit for a plan.
-pub marks-window : (z : Sizes) (word wide : ℕ) (marks near : List ℕ) → Small z → Marks word marks → Marks wide near → InWindow (shape z) word wide → (s : TrackSet) →
+pub marks-window : (z : Sizes) (word wide : ℕ) (marks near : List ℕ) → Small z → z .closed ≡ true → Marks word marks → Marks wide near → InWindow (shape z) word wide → (s : TrackSet) →
     (flag-count (shape z) (marked (shape z) marks) s ≤ 3) × (flag-count (shape z) (marked (shape z) near) s ≤ 3) × Below (shape z) (marked (shape z) marks) (marked (shape z) near) s
-marks-window z word wide marks near small m n i s =
-    let few = window-few (shape z) word wide refl i s in (
+marks-window z word wide marks near small closed m n i s =
+    let few = window-few (shape z) word wide (is-closed z closed) i s in (
       marks-few z word marks small m s (few .0),
       marks-few z wide near small n s (few .1),
       λ t l e. marks-same z word marks small m s t l ∙ i .covered s t l (sym (marks-same z wide near small n s t l) ∙ e),
     )
 
 -- A position's word flags three tracks of a set at the most.
-pub few-at : (z : Sizes) (words near : List ℕ) → Windows (shape z) words near → (m : ℕ) → m < track-length (shape z) → Few (shape z) (getD words m 0)
-few-at z words near w m b = record { most = λ s. window-few (shape z) (getD words m 0) (getD near m 0) refl (in-window-at z words near w m b) s .0 }
+pub few-at : (z : Sizes) (words near : List ℕ) → z .closed ≡ true → Windows (shape z) words near → (m : ℕ) → m < track-length (shape z) → Few (shape z) (getD words m 0)
+few-at z words near closed w m b = record { most = λ s. window-few (shape z) (getD words m 0) (getD near m 0) (is-closed z closed) (in-window-at z words near w m b) s .0 }

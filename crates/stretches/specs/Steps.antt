@@ -34,8 +34,9 @@ pub record RunEnd (words near : List ℕ) (from to r : ℕ) : Type 0 where
   pub within : r ≤ to
   pub alike : Alike words near (getD words from 0) (getD near from 0) from r
 
--- Positions of the data, or positions of the tail.
+-- Positions of the data, or positions of the tail, which is closed.
 pub record Part (z : Sizes) (from to : ℕ) : Type 0 where
+  pub closed : z .closed ≡ true
   pub order : from ≤ to
   pub inside : to ≤ track-length (shape z)
   pub one-side : from < z .positions → to ≤ z .positions

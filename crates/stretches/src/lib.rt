@@ -2,6 +2,8 @@
 use code::Sizes;
 use solver::NONE;
 use solver::Plan;
+ghost use mathlib.Core.Path.{_≡_};
+ghost use mathlib.Core.Bool.{true};
 ghost use Prim.Native.Nat.{_<_, _≤_};
 ghost use lib.ListN.{length};
 ghost use Rattle.code.specs.Record.{track-length};
@@ -227,6 +229,7 @@ fn data_run(out: &mut [u8], syn: &mut [u8], z: Sizes, a: Plan, b: Plan, from: us
 // The same at positions of the tail.
 fn tail_run(out: &mut [u8], syn: &mut [u8], z: Sizes, a: Plan, b: Plan, from: usize, to: usize)
     requires { ⌜ Kept z (now out) (now syn) ⌝ }
+    requires { ⌜ z .closed ≡ true ⌝ }
     requires { ⌜ from ≤ to ⌝ }
     requires { ⌜ to ≤ track-length (shape z) ⌝ }
     requires { ⌜ z .positions ≤ from ⌝ }
@@ -304,6 +307,7 @@ fn solve_part(
 pub fn solve(out: &mut [u8], syn: &mut [u8], z: Sizes, words: &[u32], near: &[u32]) -> bool
     requires { ⌜ Kept z (now out) (now syn) ⌝ }
     requires { ⌜ Windows (shape z) (now words) (now near) ⌝ }
+    requires { ⌜ z .closed ≡ true ⌝ }
     ensures { λ r. ⌜ Solved z (word-cells (shape z) (now (words .entry))) (now (out .entry)) (now (out .exit)) (now (syn .exit)) r ⌝ }
 {
     let positions = z.positions;

@@ -13,7 +13,7 @@ use Rattle.sums.specs.Run.{rule, Done}
 
 -- An image of the same tracks with 80 positions.
 abbrev pub edge : Sizes → Sizes
-edge z = record { t1 = z .t1; t2 = z .t2; positions = 80 }
+edge z = record { t1 = z .t1; t2 = z .t2; positions = 80; closed = z .closed }
 
 -- The first 80 cells, or all where there are fewer, are the source's, and later ones stay.
 pub record FirstCopied (source before after : List ℕ) : Type 0 where

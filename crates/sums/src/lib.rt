@@ -207,6 +207,7 @@ fn sum_short(syn: &mut [u8], padded: &[u8], z: Sizes)
         t1: z.t1,
         t2: z.t2,
         positions: 80,
+        closed: z.closed,
     };
     let mut rows = [0u8; 256];
     put_rows(&mut rows, 64, 0, padded, sizes, lag);
@@ -243,6 +244,7 @@ fn sum_run(syn: &mut [u8], padded: &[u8], image: &[u8], z: Sizes, m: usize)
             t1: z.t1,
             t2: z.t2,
             positions: 80,
+            closed: z.closed,
         };
         put_rows(syn, l, p, padded, sizes, lag + p);
     } else {

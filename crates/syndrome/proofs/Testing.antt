@@ -12,6 +12,7 @@ use Rattle.code.specs.Record.{TrackSet, A, B, Shape, track-length, Cells, Good}
 use Rattle.code.specs.Image.{image-size, cells}
 use Rattle.code.specs.Sizes.{shape}
 use Rattle.code.specs.declared.Sizes.{Sizes}
+use Rattle.code.proofs.Closings.{is-closed, closed-end, closed-tracks}
 use Rattle.track.specs.Track.{Zeros}
 use Rattle.syndrome.specs.Syndrome.{set-of, Kept, Tested}
 use Rattle.syndrome.specs.Steps.{TrackNumber, TrackTail, TailZero}
@@ -52,7 +53,7 @@ module _ (z : Sizes) (s t g : ℕ) (out : List ℕ) (r : Bool) (n : TrackNumber 
 pub not-good : (sh : Shape) (x : Cells) → (Good sh x → ⊥) → Tested sh x false
 not-good sh x h = record { yes-good = λ e. absurd (true≢false (sym e)); not-good = λ e. h }
 
-module _ (z : Sizes) (out syn : List ℕ) (kept : Kept z out syn) where
+module _ (z : Sizes) (out syn : List ℕ) (kept : Kept z out syn) (closed : z .closed ≡ true) where
   -- The syndromes of a good record are 0.
   good-sums : Good (shape z) (cells (shape z) out) → (i : ℕ) → i < length syn → getD syn i 0 ≡ 0
   good-sums g i h = by-rows (track-length (shape z)) (λ i. getD syn i 0 ≡ 0) at i (omega (arith, kept .holds .size))
@@ -60,8 +61,8 @@ module _ (z : Sizes) (out syn : List ℕ) (kept : Kept z out syn) where
       at : (r m : ℕ) → r < 4 → m < track-length (shape z) → getD syn (r * track-length (shape z) + m) 0 ≡ 0
       at zero m k b = kept .holds .diagonals A m b ∙ g .diagonals A m b
       at (suc zero) m k b = kept .holds .diagonals B m b ∙ g .diagonals B m b
-      at (suc (suc zero)) m k b = kept .holds .verticals A m b ∙ g .verticals A m b
-      at (suc (suc (suc zero))) m k b = kept .holds .verticals B m b ∙ g .verticals B m b
+      at (suc (suc zero)) m k b = kept .holds .verticals A m b ∙ g .verticals A m (omega (arith, closed-end (shape z) (is-closed z closed)))
+      at (suc (suc (suc zero))) m k b = kept .holds .verticals B m b ∙ g .verticals B m (omega (arith, closed-end (shape z) (is-closed z closed)))
       at (suc (suc (suc (suc r)))) m k b = absurd (omega arith)
 
   -- The part that is tested: all four rows.
@@ -84,13 +85,13 @@ module _ (z : Sizes) (out syn : List ℕ) (kept : Kept z out syn) where
 
   -- The tail of a good record is 0.
   pub good-tail : Good (shape z) (cells (shape z) out) → (s : TrackSet) → TailZero (shape z) (cells (shape z) out) s
-  good-tail g s t h k = record { zero = λ m p q. g .tail s t m h (omega arith) p q }
+  good-tail g s t h k = record { zero = λ m p q. g .tail s t m h (omega (arith, closed-tracks (shape z) (is-closed z closed) s)) p q }
 
   -- So much makes a record good.
   pub makes-good : ((i : ℕ) → getD syn i 0 ≡ 0) → TailZero (shape z) (cells (shape z) out) A → TailZero (shape z) (cells (shape z) out) B → Good (shape z) (cells (shape z) out)
   makes-good sums a b = let tail : (s : TrackSet) → TailZero (shape z) (cells (shape z) out) s = elim [ A ↦ a | B ↦ b ] in record {
     bits = λ s t m h k. kept .image .bits _;
     diagonals = λ s m k. sym (kept .holds .diagonals s m k) ∙ sums _;
-    verticals = λ s m k. sym (kept .holds .verticals s m k) ∙ sums _;
-    tail = λ s t m h k p q. tail s t h (omega arith) .zero m p q;
+    verticals = λ s m k. sym (kept .holds .verticals s m (omega (arith, closed-end (shape z) (is-closed z closed)))) ∙ sums _;
+    tail = λ s t m h k p q. tail s t h (omega (arith, closed-tracks (shape z) (is-closed z closed) s)) .zero m p q;
   }

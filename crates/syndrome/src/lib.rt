@@ -1,9 +1,10 @@
 // What the syndromes of an image are, and the functions that change a cell and keep them.
 use code::Sizes;
 ghost use mathlib.Core.Path.{_≡_};
+ghost use mathlib.Core.Bool.{true};
 ghost use Prim.Native.Nat.{_+_, _*_, _<_, _≤_};
 ghost use lib.ListN.{length, getD};
-ghost use Rattle.code.specs.Record.{track-length};
+ghost use Rattle.code.specs.Record.{track-length, vertical-end, tail-tracks};
 ghost use Rattle.track.specs.Track.{Bits};
 ghost use Rattle.code.specs.Image.{cells};
 ghost use Rattle.code.specs.Sizes.{shape, Small};
@@ -26,6 +27,28 @@ pub fn data_tracks(z: Sizes, s: usize) -> usize
     ensures { λ r. ⌜ DataTracks z s r ⌝ }
 {
     if s == 0 { z.t1 } else { z.t2 }
+}
+
+// Rule 3 holds at the positions before this one.
+pub fn vertical_end(z: Sizes) -> usize
+    requires { ⌜ Small z ⌝ }
+    ensures { λ r. ⌜ r ≡ vertical-end (shape z) ⌝ }
+{
+    if z.closed {
+        z.positions + (z.t1 + z.t2 + 1)
+    } else {
+        z.positions
+    }
+}
+
+// The tracks of a set from 1 up to this one, itself not among them, are 0 in the tail.
+pub fn tail_tracks(z: Sizes, s: usize) -> usize
+    requires { ⌜ Small z ⌝ }
+    requires { ⌜ s < 2 ⌝ }
+    ensures { λ r. ⌜ r ≡ tail-tracks (shape z) (set-of s) ⌝ }
+{
+    let count = data_tracks(z, s);
+    if z.closed { count + 1 } else { count + 2 }
 }
 
 // The track number of track t of a set.
@@ -192,9 +215,10 @@ fn tail_zero(out: &[u8], z: Sizes, s: usize) -> bool
     true
 }
 
-// Is a record good, whose syndromes are at hand?
+// Is a record good, whose tail is closed and whose syndromes are at hand?
 pub fn is_good(out: &[u8], syn: &[u8], z: Sizes) -> bool
     requires { ⌜ Kept z (now out) (now syn) ⌝ }
+    requires { ⌜ z .closed ≡ true ⌝ }
     ensures { λ r. ⌜ Tested (shape z) (cells (shape z) (now (out .entry))) r ⌝ }
 {
     let l = z.positions + (z.t1 + z.t2 + 1);

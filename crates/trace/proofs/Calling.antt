@@ -6,11 +6,11 @@ use Prim.Native.Nat.{ℕ, _<_, _≤_}
 use native.Mathlib.Omega.{arith}
 use lib.ListN.{length, take, drop}
 use lib.Seq.{length-take-le}
-use Rattle.code.specs.Record.{base, Shape, tracks}
+use Rattle.code.specs.Record.{base, closed-tail, Shape, tracks}
 use Rattle.code.specs.Image.{image-size, cells}
 use Rattle.code.specs.Flags.{TrackFlags}
 use Rattle.code.specs.Lost.{read-values}
-use Rattle.code.specs.Reach.{flags-code, code-reach, ceiling-reach, both, within, traced-reach}
+use Rattle.code.specs.Reach.{flags-code, code-reach, table-reach, ceiling-reach, both, within, traced-reach}
 use Rattle.code.specs.Numbers.{Check, ceiling-check, reach-check, Passed}
 use Rattle.code.specs.Calls.{Result, plain, Refused, early-checks, TraceNear, trace-named, Traces}
 use Rattle.code.specs.Contracts.{call-flags, TracedWithin}
@@ -18,14 +18,16 @@ use Rattle.code.specs.declared.Reach.{Reach}
 use Rattle.code.proofs.Changed.{changed-extra-same}
 use Rattle.code.proofs.Numbers.{first-after, answer-of}
 use Rattle.code.proofs.Outputs.{own-cells, trace-all, mended-as}
-use Rattle.code.proofs.Reaches.{Below, both-left}
+use Rattle.code.proofs.Codes.{table-room}
+use Rattle.code.proofs.Reaches.{both-left, room-less}
 use Rattle.code.proofs.Same.{SameFlags}
 use Rattle.solver.specs.Solver.{marked}
 use Rattle.checks.specs.First.{FirstAnswer}
 use Rattle.checks.proofs.Refusing.{told-plain, refuses-call}
 use Rattle.flags.specs.Marks.{CallMarks}
 use Rattle.repair.proofs.Calling.{has-room, code-is}
-use Rattle.trace.proofs.Flagging.{reach-same}
+use Rattle.trace.specs.Steps.{StaysWithin}
+use Rattle.trace.proofs.Flagging.{reach-same, allowed-within}
 
 -- Flags that say the same.
 traces-as : (sh : Shape) (image before : List ℕ) (r : Result) (after : List ℕ) (f g : TrackFlags) → SameFlags sh f g → (w : Reach) →
@@ -34,9 +36,9 @@ traces-as sh image before r after f g same w = mended-as sh image before r after
     (reach-same sh f g same w (cells sh image)) (reach-same sh g f (λ s t l. sym (same s t l)) w (cells sh image))
     (λ _ s. changed-extra-same sh _ _ _ _ (own-cells sh image) (own-cells sh after) f g s (same s) (tracks sh s) (omega arith))
 
--- What both allow is no more than what one allows.
-pub both-below : (w v u : Reach) → w ≡ both v u → Below w v
-both-below w v u e = rw e (both-left v u)
+-- Where the flags have a code, what it and a ceiling both allow stays within the limit.
+pub both-within : (sh : Shape) (f : TrackFlags) (w u : Reach) → sh .closing ≡ closed-tail → flags-code sh f ≢ 0 → w ≡ both (table-reach sh f) u → StaysWithin sh w f
+both-within sh f w u c coded e v = allowed-within sh w f v c (room-less _ _ (rw e (both-left (table-reach sh f) u)) _ _ (table-room sh f coded))
 
 module _ (n word ceiling : ℕ) (image out : List ℕ) (r : Result) where
   abbrev f : TrackFlags

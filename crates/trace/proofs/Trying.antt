@@ -5,15 +5,13 @@ use mathlib.Core.Bool.{Bool, true, false, true≢false, _||_}
 use mathlib.Core.List.{List}
 use Prim.Native.Nat.{ℕ, suc, _<_, _≤_}
 use native.Mathlib.Omega.{arith}
-use Rattle.code.specs.Record.{TrackSet, A, B, Shape, tracks, track-length}
+use Rattle.code.specs.Record.{TrackSet, A, B, Shape, tracks, vertical-end}
 use Rattle.code.specs.Image.{cells}
 use Rattle.code.specs.Flags.{TrackFlags, Within}
 use Rattle.code.specs.Reach.{Allowed, is, with-extras}
 use Rattle.code.specs.Sizes.{shape}
 use Rattle.code.specs.declared.Sizes.{Sizes}
 use Rattle.code.specs.declared.Reach.{Reach}
-use Rattle.code.proofs.Codes.{table-room}
-use Rattle.code.proofs.Reaches.{room-less}
 use Rattle.code.proofs.Patterns.{neither}
 use Rattle.solver.specs.Solver.{marked}
 use Rattle.plans.specs.declared.Three.{Three}
@@ -27,7 +25,6 @@ use Rattle.repair.proofs.Working.{tails-none, found-none, found-good, found-agr
 use Rattle.repair.proofs.Making.{found-as}
 use Rattle.trace.specs.Steps.{extra-at, choice-at, extra-in, IsChoice, Explains, Fits, Traceable, Fitting, Tried}
 use Rattle.trace.proofs.Choices.{is-track, is-other}
-use Rattle.trace.proofs.Flagging.{allowed-within}
 
 -- ## The flags with the extras of a choice
 
@@ -80,7 +77,7 @@ module _ (z : Sizes) (w : Reach) (marks rows : List ℕ) (x y : Three) (start : 
 
   -- An allowed choice stays within the limit.
   wide-within : Allowed (shape z) w f (choice-at a b) → Within (shape z) g
-  wide-within allowed = allowed-within (shape z) w f (choice-at a b) refl (room-less _ _ (given .below) _ _ (table-room (shape z) f (given .coded))) allowed
+  wide-within allowed = given .within (choice-at a b) allowed
 
   -- Its tracks, set by set, and their form.
   module _ (allowed : Allowed (shape z) w f (choice-at a b)) (in-a in-b : Three) (ia : plans.Inserted x a in-a) (ib : plans.Inserted y b in-b) where
@@ -90,7 +87,7 @@ module _ (z : Sizes) (w : Reach) (marks rows : List ℕ) (x y : Three) (start : 
     pub three-b : plans.ThreeOf (shape z) g B in-b
     three-b = ib .is (shape z) B f g (one-more-in (shape z) f a b w allowed B (choice .in-b)) (wide-within allowed .in-set B) (given .in-b)
 
-    pub choice-form : (p : Form) → plans.Formed z (track-length (shape z)) in-a in-b p → plans.Fits (shape z) (track-length (shape z)) g p
+    pub choice-form : (p : Form) → plans.Formed z in-a in-b p → plans.Fits (shape z) g p
     choice-form p formed = formed .fits g (wide-within allowed) three-a three-b
 
   module _ (need : Needs) where
@@ -111,13 +108,13 @@ module _ (z : Sizes) (w : Reach) (marks rows : List ℕ) (x y : Three) (start : 
 
     -- Errors of its tracks were looked for.
     pub choice-tried : Allowed (shape z) w f (choice-at a b) → ((s : TrackSet) → need-of need s ≢ 0 → need-of need s ≡ extra-in a b s) → (p : Form) →
-        plans.Fits (shape z) (track-length (shape z)) g p → (found : List ℕ) → Fresh found start → (r : Bool) → Found z (track-length (shape z)) p rows found r →
+        plans.Fits (shape z) g p → (found : List ℕ) → Fresh found start → (r : Bool) → Found z (vertical-end (shape z)) p rows found r →
         Tried z w f rows need a b start found (record { fits = r; form = p })
     choice-tried allowed explained p fits found fresh r wf = record {
       fresh = fresh;
-      fits = λ h. record { allowed = allowed; form = fits; found = found-as _ _ _ _ _ _ _ h wf; explained = explained };
+      fits = λ h. record { allowed = allowed; form = fits; found = found-as _ _ _ _ _ _ _ _ refl h wf; explained = explained };
       no-fit = λ h image out prepared v n. found-none z f image out rows need prepared g (extra-in a b) extra-small (wide-less (shape z) f a b) (wide-grown (shape z) f a b)
-          p fits found (found-as _ _ _ _ _ _ _ h wf) v (n .good) (n .agree);
+          p fits found (found-as _ _ _ _ _ _ _ _ refl h wf) v (n .good) (n .agree);
     }
 
 -- ## A choice that fits, its errors added

@@ -6,15 +6,14 @@ use mathlib.Core.List.{List}
 use Prim.Native.Nat.{ℕ, zero, suc, _+_, _<_, _≤_}
 use lib.Dec.{eqb}
 use lib.ListN.{length, getD}
-use Rattle.code.specs.Record.{TrackSet, A, B, Shape, tracks, track-length, Cells, Good}
+use Rattle.code.specs.Record.{TrackSet, A, B, Shape, tracks, track-length, vertical-end, Cells, Good}
 use Rattle.code.specs.Image.{cells}
-use Rattle.code.specs.Flags.{TrackFlags, whole, AgreeOff}
-use Rattle.code.specs.Reach.{pick, flags-code, table-reach, Extra, none, extra, Choice, Allowed, with-extras, InReach}
+use Rattle.code.specs.Flags.{TrackFlags, whole, AgreeOff, Within}
+use Rattle.code.specs.Reach.{pick, Extra, none, extra, Choice, Allowed, with-extras, InReach}
 use Rattle.code.specs.Calls.{Result, mended}
 use Rattle.code.specs.Sizes.{shape, Small}
 use Rattle.code.specs.declared.Sizes.{Sizes}
 use Rattle.code.specs.declared.Reach.{Reach}
-use Rattle.code.proofs.Reaches.{Below}
 use Rattle.solver.specs.Solver.{marked}
 use Rattle.changes.specs.Changes.{HasTrack, changed-at}
 use Rattle.plans.specs.declared.Three.{Three}
@@ -66,6 +65,10 @@ pub record Allows (sh : Shape) (w : Reach) (f : TrackFlags) (e : Choice) (r : Bo
   pub yes-allowed : r ≡ true → Allowed sh w f e
   pub not-allowed : r ≡ false → Allowed sh w f e → ⊥
 
+-- Every choice that a reach allows stays within the limit.
+abbrev pub StaysWithin : Shape → Reach → TrackFlags → Type 0
+StaysWithin sh w f = (e : Choice) → Allowed sh w f e → Within sh (with-extras f e)
+
 -- ## Tracing
 
 -- A good record that is in reach by a choice.
@@ -84,13 +87,12 @@ pub record Explains (need e : ℕ) (r : Bool) : Type 0 where
   pub yes-explained : r ≡ true → need ≢ 0 → need ≡ e
   pub not-explained : r ≡ false → (need ≢ 0) × (need ≢ e)
 
--- What the tracer works with: sums, marks that have a code, the marked tracks, and a reach that allows no more than the table.
+-- What the tracer works with: sums, marks, the marked tracks, and a reach that stays within the limit.
 pub record Traceable (z : Sizes) (w : Reach) (marks rows : List ℕ) (x y : Three) (start : ℕ) : Type 0 where
   pub small : Small z
   pub sums : Rows 4 rows
   pub marks-size : length marks ≡ 18
-  pub coded : flags-code (shape z) (marked (shape z) marks) ≢ 0
-  pub below : Below w (table-reach (shape z) (marked (shape z) marks))
+  pub within : StaysWithin (shape z) w (marked (shape z) marks)
   pub in-a : plans.ThreeOf (shape z) (marked (shape z) marks) A x
   pub in-b : plans.ThreeOf (shape z) (marked (shape z) marks) B y
   pub started : StartOf (track-length (shape z)) rows start
@@ -98,8 +100,8 @@ pub record Traceable (z : Sizes) (w : Reach) (marks rows : List ℕ) (x y : Thre
 -- A choice fits: errors were found on its tracks and pass all tests, and its extras explain the tails.
 pub record Fitting (z : Sizes) (w : Reach) (f : TrackFlags) (rows : List ℕ) (need : Needs) (a b : ℕ) (p : Form) (words : List ℕ) : Type 0 where
   pub allowed : Allowed (shape z) w f (choice-at a b)
-  pub form : plans.Fits (shape z) (track-length (shape z)) (with-extras f (choice-at a b)) p
-  pub found : Found z (track-length (shape z)) p rows words true
+  pub form : plans.Fits (shape z) (with-extras f (choice-at a b)) p
+  pub found : Found z (vertical-end (shape z)) p rows words true
   pub explained : (s : TrackSet) → need-of need s ≢ 0 → need-of need s ≡ extra-in a b s
 
 -- One choice is tried. Where it fails no good record is in reach by it, of whatever record these are the sums.

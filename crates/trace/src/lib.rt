@@ -10,17 +10,16 @@ use repair::Needs;
 ghost use mathlib.Core.Path.{_≡_};
 ghost use Prim.Native.Nat.{_+_, _≤_, min};
 ghost use lib.ListN.{length};
-ghost use Rattle.code.specs.Reach.{code-reach, table-reach, size, ceiling-reach, both};
+ghost use Rattle.code.specs.Reach.{code-reach, size, ceiling-reach, both};
 ghost use Rattle.code.specs.Calls.{Traces};
 ghost use Rattle.code.specs.Contracts.{Traced, TracedWithin};
 ghost use Rattle.code.specs.Answers.{extra-of, result-of};
 ghost use Rattle.code.specs.Sizes.{shape};
-ghost use Rattle.code.proofs.Reaches.{Below};
 ghost use Rattle.solver.specs.Solver.{marked};
 ghost use Rattle.changes.specs.Changes.{OnlyMarked};
 ghost use Rattle.errors.specs.Steps.{Fresh};
 ghost use Rattle.repair.specs.Steps.{Given};
-ghost use Rattle.trace.specs.Steps.{HasExtra, named-at, extra-at, choice-at, IsChoice, OneMore, Widened, Free, Allows, Explains, Traceable, Tried, Searched, mended-at};
+ghost use Rattle.trace.specs.Steps.{HasExtra, named-at, extra-at, choice-at, IsChoice, OneMore, Widened, Free, Allows, StaysWithin, Explains, Traceable, Tried, Searched, mended-at};
 
 // ---- What is allowed
 
@@ -199,11 +198,11 @@ fn try_choice(
     if !explains(need.b, b) {
         return Trial { fits: false, form };
     }
-    let l = z.positions + (z.t1 + z.t2 + 1);
+    let end = syndrome::vertical_end(z);
     let in_a = plans::insert(x, a);
     let in_b = plans::insert(y, b);
-    let p = plans::form_of(z, l, in_a, in_b);
-    let fits = errors::find(rows, found, z, l, p, start);
+    let p = plans::form_of(z, in_a, in_b);
+    let fits = errors::find(rows, found, z, end, p, start);
     Trial { fits, form: p }
 }
 
@@ -225,8 +224,7 @@ fn search(
 {
     let in_a = z.t1 + 2;
     let in_b = z.t2 + 2;
-    let l = z.positions + (z.t1 + z.t2 + 1);
-    let mut form = plans::form_of(z, l, x, y);
+    let mut form = plans::form_of(z, x, y);
     let mut fits = false;
     let mut a = 0;
     let mut b = 0;
@@ -254,7 +252,7 @@ fn search(
 // Traces into the output, of the image's size.
 fn trace_record(z: Sizes, w: Reach, marks: [u8; 18], image: &[u8], out: &mut [u8]) -> Answer
     requires { ⌜ Given z marks (now image) (now out) ⌝ }
-    requires { ⌜ Below w (table-reach (shape z) (marked (shape z) marks)) ⌝ }
+    requires { ⌜ StaysWithin (shape z) w (marked (shape z) marks) ⌝ }
     ensures { λ r. ⌜ Traces (shape z) w (marked (shape z) marks) (now (image .entry)) (now (out .entry)) (result-of r) (now (out .exit)) ⌝ }
 {
     let l = z.positions + (z.t1 + z.t2 + 1);
@@ -294,6 +292,7 @@ pub fn trace_within(blocks: u32, flags: u32, ceiling: u32, image: &[u8], out: &m
         t1: 7,
         t2: 7,
         positions: 8 * n,
+        closed: true,
     };
     let marks = flags::call_marks(z, flags, image, seen.lost);
     let code = flags::code_of(z, &marks);

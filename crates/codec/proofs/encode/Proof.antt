@@ -56,7 +56,7 @@ write-record-requires : tie.Need-write-record-requires
 write-record-requires c κs =
     let p = right (c .before) in (
       record { small = search needs; positions = refl; whole = length-take-le _ _ (p .fits); room = search needs },
-      record { t1-seven = refl; t2-seven = refl; blocks = refl },
+      (record { t1-seven = refl; t2-seven = refl; blocks = refl }, refl),
     )
 
 plain-answer-requires : tie.Need-plain-answer-requires

@@ -14,7 +14,7 @@ returns c =
     let p = c .before .before .pre in
     record {
       yes-good = λ e. absurd (true≢false (sym e));
-      not-good = λ e good. p .1 .1 .some (c .if1 .taken) (λ i l. good-bits _ (now (c .before .before .args .image)) (p .1 .0) good i);
+      not-good = λ e good. p .1 .1 .1 .some (c .if1 .taken) (λ i l. good-bits _ (now (c .before .before .args .image)) (p .1 .1 .0) good i);
     }
 
 add-l : tie.Need-add-l
@@ -39,7 +39,7 @@ good-by-requires : tie.Need-good-by-requires
 good-by-requires c κs =
     let s = c .before .before .before .before in
     let p = s .before .before .pre in
-    (p .0, (record { size = p .1 .0; bits = p .1 .1 .bits (s .if1 .left) }, length-take-le _ _ (omega arith)))
+    (p .0, (p .1 .0, (record { size = p .1 .1 .0; bits = p .1 .1 .1 .bits (s .if1 .left) }, length-take-le _ _ (omega arith))))
 
 mul-room-2 : tie.Need-mul-room-2
 mul-room-2 c = search needs
@@ -54,7 +54,7 @@ good-by-requires-2 : tie.Need-good-by-requires-2
 good-by-requires-2 c κs =
     let s = c .before .before .before .before in
     let p = s .before .before .pre in
-    (p .0, (record { size = p .1 .0; bits = p .1 .1 .bits (s .if1 .left) }, length-take-le _ _ (omega (arith, p .0))))
+    (p .0, (p .1 .0, (record { size = p .1 .1 .0; bits = p .1 .1 .1 .bits (s .if1 .left) }, length-take-le _ _ (omega (arith, p .0)))))
 
 returns-2 : tie.Need-returns-2
 returns-2 c = search needs

@@ -51,7 +51,7 @@ mul-t8 c = search needs
 image-good-requires : tie.Need-image-good-requires
 image-good-requires c κs =
     let few = right c .sizes .few in
-    (search needs, (right c .sizes .exact, c .before .before .before .check-image .ensures .1 (c .if1 .left)))
+    (search needs, (refl, (right c .sizes .exact, c .before .before .before .check-image .ensures .1 (c .if1 .left))))
 
 plain-answer-requires : tie.Need-plain-answer-requires
 plain-answer-requires c κs = search needs

@@ -16,7 +16,7 @@ track-room : (c : tie.Start) → length {A = ℕ} (take (8 * c .args .blocks + 1
 track-room c = front 2063 _ (omega (arith, c .pre .0 .positions, c .pre .0 .small .positions-small))
 
 track-size : (c : tie.Start) → 8 * c .args .blocks + 15 ≡ track-length (shape (c .args .z))
-track-size c = let v = c .pre .1 in omega (arith, v .t1-seven, v .t2-seven, v .blocks)
+track-size c = let v = c .pre .1 .0 in omega (arith, v .t1-seven, v .t2-seven, v .blocks)
 
 mul-l : tie.Need-mul-l
 mul-l c = search needs
@@ -42,7 +42,7 @@ slice-aggregate-b c = sym (front 2063 _ (search needs))
 carry-requires : tie.Need-carry-requires
 carry-requires c κs =
     let s = c .before .before .before .before .before .before .before .before .before .before in
-    let v = s .pre .1 in
+    let v = s .pre .1 .0 in
     record { small = omega arith; bytes = rw (v .t1-seven, v .t2-seven) at (s .pre .0 .room); size-a = track-room s; size-b = track-room s }
 
 write-checks-requires : tie.Need-write-checks-requires
@@ -50,7 +50,7 @@ write-checks-requires c κs =
     let k = c .before .before .before .before .before .carry in
     let d = c .before .before .before .before .before .before .before .before .before .before .before .before in
     let s = d .before .before .before .before in
-    (s .pre .0 .small, (omega arith, (filled-image _ _ _ _ (d .write-data .ensures), (k .kept .0 ∙ track-room s ∙ track-size s, k .ensures .bits A))))
+    (s .pre .0 .small, (omega arith, (filled-image (s .args .z) _ _ _ (d .write-data .ensures), (k .kept .0 ∙ track-room s ∙ track-size s, k .ensures .bits A))))
 
 write-checks-requires-2 : tie.Need-write-checks-requires-2
 write-checks-requires-2 c κs =
@@ -68,7 +68,7 @@ returns c =
     let k = p .before .before .before .before .before .before in
     let d = k .before .before .before .before .before .before .before in
     let s = d .before .before .before .before in
-    good-record _ _ _ _ (d .write-data .ensures) (s .pre .1) _ _ _ _ (k .carry .ensures) (p .write-checks .ensures) (q .write-checks2 .ensures)
+    good-record _ _ _ _ (d .write-data .ensures) (s .pre .1 .0) (s .pre .1 .1) _ _ _ _ (k .carry .ensures) (p .write-checks .ensures) (q .write-checks2 .ensures)
 
 pub write-record-spec : {M : Type 1} → statement M
 write-record-spec =

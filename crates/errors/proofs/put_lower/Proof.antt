@@ -17,8 +17,8 @@ add-l-3 c = search needs
 lower-word-requires : tie.Need-lower-word-requires
 lower-word-requires c κs = search needs
 
-reach-of-requires : tie.Need-reach-of-requires
-reach-of-requires c κs = search needs
+extent-of-requires : tie.Need-extent-of-requires
+extent-of-requires c κs = search needs
 
 rest-requires : tie.Need-rest-requires
 rest-requires c κs = search needs
@@ -40,7 +40,7 @@ returns c =
     let s = w .before .before .before .before .before .before in
     let a = s .args in
     lower-put (a .z) (a .end) (a .p) (now (a .rows)) (now (a .found)) (a .i) _ _ _ (w .lower-word .ensures)
-    (rw (f .before .rest .ensures, f .before .before .reach-of .ensures) at (f .first-cells .ensures)) (p .put-word .ensures)
+    (rw (f .before .rest .ensures, f .before .before .extent-of .ensures) at (f .first-cells .ensures)) (p .put-word .ensures)
 
 pub put-lower-spec : {M : Type 1} → statement M
 put-lower-spec =
@@ -50,7 +50,7 @@ put-lower-spec =
     add-l-2
     add-l-3
     lower-word-requires
-    reach-of-requires
+    extent-of-requires
     rest-requires
     first-cells-requires
     put-word-requires

@@ -18,8 +18,8 @@ upper-word-requires c κs =
     let s = w .before .before .before .before .before .before in
     (s .pre .0 .small, (s .pre .0 .sized, (w .put-word .ensures .rows, (omega arith, omega arith))))
 
-reach-of-requires : tie.Need-reach-of-requires
-reach-of-requires c κs = search needs
+extent-of-requires : tie.Need-extent-of-requires
+extent-of-requires c κs = search needs
 
 rest-requires : tie.Need-rest-requires
 rest-requires c κs = search needs
@@ -43,7 +43,7 @@ returns c =
     let a = s .args in
     upper-put (a .z) (a .end) (a .p) (now (a .rows)) (now (a .found)) (a .i) _ _ _ _ _ (s .pre .0 .end-small) (omega arith) (s .pre .1 .1 .1)
     (q .before .before .pair-word .ensures) (q .put-word .ensures) (w .upper-word .ensures)
-    (rw (f .before .rest .ensures, f .before .before .reach-of .ensures) at (f .first-cells .ensures)) (p .put-word2 .ensures)
+    (rw (f .before .rest .ensures, f .before .before .extent-of .ensures) at (f .first-cells .ensures)) (p .put-word2 .ensures)
 
 pub put-upper-spec : {M : Type 1} → statement M
 put-upper-spec =
@@ -52,7 +52,7 @@ put-upper-spec =
     pair-word-requires
     put-word-requires
     upper-word-requires
-    reach-of-requires
+    extent-of-requires
     rest-requires
     first-cells-requires
     put-word-requires-2

@@ -2,15 +2,16 @@
 use mathlib.Core.Path.{_≡_, sym, _∙_}
 use mathlib.Core.Logic.{⊎-elim}
 use mathlib.Core.Bool.{true≢false}
-use Prim.Native.Nat.{suc, _+_, _-_, _<_, _≤_}
+use Prim.Native.Nat.{_+_, _-_, _<_, _≤_}
 use native.Mathlib.Omega.{arith}
 use borrow.Author.Needs.{needs}
 use borrow.Author.Tests.{eq-eqb, ne-eqb}
 use denote.Ref.{now}
 use lib.Dec.{eqb}
 use lib.ListN.{length, getD}
-use Rattle.code.specs.Record.{data-tracks, tracks}
+use Rattle.code.specs.Record.{tracks, tail-tracks}
 use Rattle.code.specs.Sizes.{shape}
+use Rattle.code.proofs.Cell.{tail-data, tail-within}
 use Rattle.syndrome.specs.Syndrome.{set-of}
 use Rattle.solver.specs.Solver.{marked}
 use Rattle.mend.proofs.Tails.{Clearing, clearing-none, clearing-same, clearing-first, clearing-more, mark-at, mark-inside}
@@ -18,16 +19,18 @@ use Rattle.mend.proofs.clear_tails.Statement.{statement}
 use Rattle.mend.proofs.clear_tails.Tie as tie
 
 abbrev Inv-loop : tie.InvT-loop
-Inv-loop z marks out₀ s first count need₀ t₀ out need t = (1 ≤ t) × (t ≤ count + 1) × Clearing z (set-of s) (marked (shape z) marks) t out₀ out need
+Inv-loop z marks out₀ s first count need₀ t₀ out need t = (1 ≤ t) × (t ≤ count) × Clearing z (set-of s) (marked (shape z) marks) t out₀ out need
 
 abbrev μ-loop : tie.MeasureT-loop
-μ-loop z marks out₀ s first count need₀ t₀ out need t = count + 1 - t
+μ-loop z marks out₀ s first count need₀ t₀ out need t = count - t
 
 -- The set has track t.
 has : (c : tie.In-loop Inv-loop μ-loop) →
     let a = c .before .before .before .before .before .before .args in
     c .before .loop .t < tracks (shape (a .z)) (set-of (a .s))
-has c = let d = c .before .before .data-tracks .ensures .is in omega (arith, c .loop-test .taken)
+has c =
+    let a = c .before .before .before .before .before .before .args in
+    omega (arith, c .before .before .tail-tracks .ensures, tail-within (shape (a .z)) (set-of (a .s)), c .loop-test .taken)
 
 -- It has a mark.
 inside : (c : tie.In-loop Inv-loop μ-loop) →
@@ -47,17 +50,22 @@ read c =
 track-number-requires : tie.Need-track-number-requires Inv-loop μ-loop
 track-number-requires c κs = search needs
 
-data-tracks-requires : tie.Need-data-tracks-requires Inv-loop μ-loop
-data-tracks-requires c κs = search needs
+tail-tracks-requires : tie.Need-tail-tracks-requires Inv-loop μ-loop
+tail-tracks-requires c κs = search needs
 
 loop-holds : tie.Need-loop-holds Inv-loop μ-loop
-loop-holds c = (search needs, search needs, clearing-none _ _ _ _ (c .before .before .before .before .pre .1 .1 .1))
+loop-holds c =
+    let s = c .before .before .before .before in
+    (search needs, omega (arith, c .tail-tracks .ensures, tail-data (shape (s .args .z)) (set-of (s .args .s))), clearing-none _ _ _ _ (s .pre .1 .1 .1))
 
 clear-tail-requires : tie.Need-clear-tail-requires Inv-loop μ-loop
-clear-tail-requires c κs = search needs
+clear-tail-requires c κs =
+    let i = c .before in
+    let p = i .before .before .before .before .before .before .pre in
+    (record { small = p .0; set-small = p .1 .0; track-small = has i }, i .before .loop .inv .2 .done .image)
 
 add-if2 : tie.Need-add-if2 Inv-loop μ-loop
-add-if2 c = search needs
+add-if2 c = let h = inside (c .before .before .before .before .before) in search needs
 
 shared-slice-read-if2 : tie.Need-shared-slice-read-if2 Inv-loop μ-loop
 shared-slice-read-if2 c = inside (c .before .before .before .before .before .before)
@@ -94,8 +102,7 @@ returns : tie.Need-returns Inv-loop μ-loop
 returns c =
     let a = c .before .before .before .before .before .before .args in
     let l = c .before .loop in
-    let d = c .before .before .data-tracks .ensures .is in
-    let e : l .t ≡ suc (data-tracks (shape (a .z)) (set-of (a .s))) = omega arith in
+    let e : l .t ≡ tail-tracks (shape (a .z)) (set-of (a .s)) = omega (arith, c .before .before .tail-tracks .ensures, c .loop-test .left) in
     rw e at (l .inv .2 .done)
 
 pub clear-tails-spec : {M : Type 1} → statement M
@@ -105,7 +112,7 @@ clear-tails-spec =
     Inv-loop
     μ-loop
     track-number-requires
-    data-tracks-requires
+    tail-tracks-requires
     loop-holds
     clear-tail-requires
     add-if2

@@ -25,7 +25,7 @@ returns c =
     let w = u .before .before .before .before .before .before .before in
     let v = w .before .before .before .before .before .before .before in
     let s = v .before .before .before .before .before in
-    stepped-tail (s .pre .1 .1 .0) (s .pre .1 .1 .1) (v .by-tail .ensures) (w .by-tail2 .ensures) (u .by-tail3 .ensures)
+    stepped-tail (s .pre .1 .0) (s .pre .1 .1 .1 .0) (s .pre .1 .1 .1 .1) (v .by-tail .ensures) (w .by-tail2 .ensures) (u .by-tail3 .ensures)
 
 pub tail-step-spec : {M : Type 1} → statement M
 tail-step-spec =

@@ -3,6 +3,8 @@ use mathlib.Core.Path.{_≡_}
 use Prim.Native.Nat.{_-_, _≤_}
 use native.Mathlib.Omega.{arith}
 use borrow.Author.Needs.{needs}
+use Rattle.code.specs.Sizes.{shape}
+use Rattle.code.proofs.Cell.{vertical-data}
 use Rattle.solver.specs.Steps.{Ahead}
 use Rattle.solver.proofs.Advancing.{ahead-none, ahead-more}
 use Rattle.solver.proofs.verticals.Statement.{statement}
@@ -37,7 +39,7 @@ loop-again : tie.Need-loop-again Inv-loop μ-loop
 loop-again c =
     let r = c .before .before .before .before in
     let i = r .before .before .before in
-    (omega arith, ahead-more (omega arith) (i .before .loop .inv .1) (r .last-at .ensures))
+    (omega arith, ahead-more (omega (arith, vertical-data (shape (i .before .before .before .before .before .args .z)))) (i .before .loop .inv .1) (r .last-at .ensures))
 
 same-length : tie.Need-same-length Inv-loop μ-loop
 same-length c = search needs

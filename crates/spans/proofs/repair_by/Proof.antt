@@ -15,7 +15,7 @@ syndromes-requires c κs =
 solve-requires : tie.Need-solve-requires
 solve-requires c κs =
     let p = c .before .before .before .before .before .before .before .before .before .before .before .before .before .before .before .before .pre .0 in
-    (kept _ _ _ _ _ p _ _ (c .before .before .before .before .before .before .before .before .before .copy-known .ensures) (c .before .before .before .before .syndromes .ensures), p .windows)
+    (kept _ _ _ _ _ p _ _ (c .before .before .before .before .before .before .before .before .before .copy-known .ensures) (c .before .before .before .before .syndromes .ensures), (p .windows, p .closed))
 
 answer-of-requires : tie.Need-answer-of-requires
 answer-of-requires c κs = only-flagged _ _ _ _ _ (c .before .before .before .before .before .before .before .before .before .before .before .before .before .before .before .before .before .before .before .before .before .before .before .pre .0) _ _ _ _ (c .before .before .before .before .before .before .before .before .before .before .before .before .before .before .before .before .copy-known .ensures) (c .before .before .before .before .before .before .solve .ensures)

@@ -28,7 +28,7 @@ returns c = inl (too-many _ _ _ _ (c .before .before .before .before .before .be
 repair-cells-requires : tie.Need-repair-cells-requires
 repair-cells-requires c κs =
     let p = c .before .before .before .before .before .before .before .before .before .before .before .before .before .before .before .before .before .pre in
-    record { small = p .0 .small; image-is = p .0 .image-is; covered = lost-covered _ _ _ _ (c .before .before .before .before .before .before .before .before .before .before .before .flag-cells .ensures); windows = c .before .before .before .before .before .before .find-windows .ensures .coded (not-false _ (c .before .before .before .if1 .left)); out-has = p .1 .1 .0 }
+    record { small = p .0 .small; closed = p .0 .closed; image-is = p .0 .image-is; covered = lost-covered _ _ _ _ (c .before .before .before .before .before .before .before .before .before .before .before .flag-cells .ensures); windows = c .before .before .before .before .before .before .find-windows .ensures .coded (not-false _ (c .before .before .before .if1 .left)); out-has = p .1 .1 .0 }
 
 same-length-3 : tie.Need-same-length-3
 same-length-3 c = search needs

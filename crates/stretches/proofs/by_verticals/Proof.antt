@@ -2,6 +2,8 @@
 use mathlib.Core.Path.{_≡_, sym, _∙_}
 use Prim.Native.Nat.{_-_, _≤_}
 use native.Mathlib.Omega.{arith}
+use Rattle.code.specs.Sizes.{shape}
+use Rattle.code.proofs.Closings.{is-closed, closed-end}
 use Rattle.solver.specs.Steps.{Ahead}
 use Rattle.solver.proofs.Advancing.{ahead-none, ahead-more}
 use borrow.Author.Needs.{needs}
@@ -51,8 +53,9 @@ loop-again : tie.Need-loop-again Inv-loop μ-loop
 loop-again c =
     let r = c .before .before .before .before in
     let i = r .before .before .before in
-    let h = start (i .before .before) .pre .1 .1 .inside in
-    (omega arith, ahead-more (omega (arith, i .loop-test .taken)) (i .before .loop .inv .1) (r .by-vertical .ensures))
+    let s = start (i .before .before) in
+    let h = s .pre .1 .1 in
+    (omega arith, ahead-more (omega (arith, i .loop-test .taken, h .inside, closed-end (shape (s .args .z)) (is-closed (s .args .z) (h .closed)))) (i .before .loop .inv .1) (r .by-vertical .ensures))
 
 same-length-3 : tie.Need-same-length-3 Inv-loop μ-loop
 same-length-3 c = c .before .loop .inv .1 .kept .image .size ∙ sym (start (c .before .before) .pre .0 .image .size)

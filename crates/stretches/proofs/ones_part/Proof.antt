@@ -45,8 +45,8 @@ ones-word-requires c κs =
     let r = e .run-end .ensures in (
       v .2 .kept,
       (
-        few-at (s .args .z) (now (s .args .words)) (now (s .args .near)) (s .pre .1 .0) (i .before .loop .m) (omega (arith, i .loop-test .taken, h .inside)),
-        record { order = omega (arith, r .more); inside = omega (arith, r .within, h .inside); one-side = λ l. omega (arith, r .within, h .one-side (omega (arith, v .0))) },
+        few-at (s .args .z) (now (s .args .words)) (now (s .args .near)) (h .closed) (s .pre .1 .0) (i .before .loop .m) (omega (arith, i .loop-test .taken, h .inside)),
+        record { closed = h .closed; order = omega (arith, r .more); inside = omega (arith, r .within, h .inside); one-side = λ l. omega (arith, r .within, h .one-side (omega (arith, v .0))) },
       ),
     )
 

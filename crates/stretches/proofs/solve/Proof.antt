@@ -28,25 +28,27 @@ add-l-3 : tie.Need-add-l-3
 add-l-3 c = search needs
 
 ones-part-requires : tie.Need-ones-part-requires
-ones-part-requires c κs = (start c .pre .0, (start c .pre .1, record { order = omega arith; inside = omega arith; one-side = λ l. omega arith }))
+ones-part-requires c κs = (start c .pre .0, (start c .pre .1 .0, record { closed = start c .pre .1 .1; order = omega arith; inside = omega arith; one-side = λ l. omega arith }))
 
 ones-part-requires-2 : tie.Need-ones-part-requires-2
 ones-part-requires-2 c κs =
     let p = c .before .before .before .before .before .before in
-    (p .ones-part .ensures .kept, (start (p .before) .pre .1, record { order = omega arith; inside = omega arith; one-side = λ l. absurd (omega arith) }))
+    (p .ones-part .ensures .kept, (start (p .before) .pre .1 .0, record { closed = start (p .before) .pre .1 .1; order = omega arith; inside = omega arith; one-side = λ l. absurd (omega arith) }))
 
 solve-part-requires : tie.Need-solve-part-requires
 solve-part-requires c κs =
     let u = c .before .before .before .before .before .before in
-    (u .ones-part2 .ensures .kept, (start (first u .before) .pre .1, record { order = omega arith; inside = omega arith; one-side = λ l. omega arith }))
+    (u .ones-part2 .ensures .kept, (start (first u .before) .pre .1 .0, record { closed = start (first u .before) .pre .1 .1; order = omega arith; inside = omega arith; one-side = λ l. omega arith }))
 
 solve-part-requires-2 : tie.Need-solve-part-requires-2
 solve-part-requires-2 c κs =
     let v = c .before .before .before .before .before .before in
-    (v .solve-part .ensures .kept, (start (first (second v) .before) .pre .1, record { order = omega arith; inside = omega arith; one-side = λ l. absurd (omega arith) }))
+    (v .solve-part .ensures .kept, (start (first (second v) .before) .pre .1 .0, record { closed = start (first (second v) .before) .pre .1 .1; order = omega arith; inside = omega arith; one-side = λ l. absurd (omega arith) }))
 
 is-good-requires : tie.Need-is-good-requires
-is-good-requires c κs = search needs
+is-good-requires c κs =
+    let w = c .before .before .before .before .before .before in
+    (w .solve-part2 .ensures .kept, start (first (second (third w)) .before) .pre .1 .1)
 
 same-length : tie.Need-same-length
 same-length c =

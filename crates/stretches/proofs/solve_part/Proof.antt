@@ -52,7 +52,7 @@ solve-word-requires c κs =
       v .2 .kept,
       (
         in-window-at (s .args .z) (now (s .args .words)) (now (s .args .near)) (s .pre .1 .0) (i .before .loop .m) (omega (arith, i .loop-test .taken, h .inside)),
-        record { order = omega (arith, r .more); inside = omega (arith, r .within, h .inside); one-side = λ l. omega (arith, r .within, h .one-side (omega (arith, v .0))) },
+        record { closed = h .closed; order = omega (arith, r .more); inside = omega (arith, r .within, h .inside); one-side = λ l. omega (arith, r .within, h .one-side (omega (arith, v .0))) },
       ),
     )
 

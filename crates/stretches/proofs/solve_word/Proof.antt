@@ -34,7 +34,7 @@ plan-at-requires c κs =
     let h = start w .pre in
     let m = w .before .marks-of .ensures in
     let n = w .marks-of2 .ensures in
-    let x = marks-window _ _ _ _ _ (h .0 .small) m n (h .1 .0) A in
+    let x = marks-window _ _ _ _ _ (h .0 .small) (h .1 .1 .closed) m n (h .1 .0) A in
     (h .0 .small, (omega arith, (marks-room _ _ _ (h .0 .small) m, (marks-room _ _ _ (h .0 .small) n, (x .0, (x .1, x .2))))))
 
 slice-aggregate-plan-at-3 : tie.Need-slice-aggregate-plan-at-3
@@ -49,7 +49,7 @@ plan-at-requires-2 c κs =
     let h = start w .pre in
     let m = w .before .marks-of .ensures in
     let n = w .marks-of2 .ensures in
-    let x = marks-window _ _ _ _ _ (h .0 .small) m n (h .1 .0) B in
+    let x = marks-window _ _ _ _ _ (h .0 .small) (h .1 .1 .closed) m n (h .1 .0) B in
     (h .0 .small, (omega arith, (marks-room _ _ _ (h .0 .small) m, (marks-room _ _ _ (h .0 .small) n, (x .0, (x .1, x .2))))))
 
 is-single-requires : tie.Need-is-single-requires
@@ -87,13 +87,13 @@ returns-3 c =
     let b = r .before .before .before .before .before .before .before in
     let w = both-marks b in
     let h = start w .pre in
-    all-word-run (h .0 .small) (h .1 .1 .inside) (w .before .marks-of .ensures) (w .marks-of2 .ensures) (b .before .before .before .plan-at .ensures) (b .plan-at2 .ensures) (r .data-run .ensures)
+    all-word-run (h .0 .small) (h .1 .1 .closed) (h .1 .1 .inside) (w .before .marks-of .ensures) (w .marks-of2 .ensures) (b .before .before .before .plan-at .ensures) (b .plan-at2 .ensures) (r .data-run .ensures)
 
 tail-run-requires : tie.Need-tail-run-requires
 tail-run-requires c κs =
     let j = c .before .before in
     let h = start (both-marks (j .before .before .before .before)) .pre in
-    (h .0, (h .1 .1 .order, (h .1 .1 .inside, j .if4 .left)))
+    (h .0, (h .1 .1 .closed, (h .1 .1 .order, (h .1 .1 .inside, j .if4 .left))))
 
 same-length-3 : tie.Need-same-length-3
 same-length-3 c = search needs
@@ -107,7 +107,7 @@ returns-4 c =
     let b = r .before .before .before .before .before .before .before in
     let w = both-marks b in
     let h = start w .pre in
-    all-word-run (h .0 .small) (h .1 .1 .inside) (w .before .marks-of .ensures) (w .marks-of2 .ensures) (b .before .before .before .plan-at .ensures) (b .plan-at2 .ensures) (r .tail-run .ensures)
+    all-word-run (h .0 .small) (h .1 .1 .closed) (h .1 .1 .inside) (w .before .marks-of .ensures) (w .marks-of2 .ensures) (b .before .before .before .plan-at .ensures) (b .plan-at2 .ensures) (r .tail-run .ensures)
 
 pub solve-word-spec : {M : Type 1} → statement M
 solve-word-spec =

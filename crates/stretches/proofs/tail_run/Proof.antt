@@ -21,14 +21,14 @@ loop-holds : tie.Need-loop-holds Inv-loop μ-loop
 loop-holds c = (omega arith, omega arith, all-run-none (start c .pre .0))
 
 tail-step-requires : tie.Need-tail-step-requires Inv-loop μ-loop
-tail-step-requires c κs = let i = c .before .before in (i .before .loop .inv .2 .kept, (omega arith, (omega arith, omega arith)))
+tail-step-requires c κs = let i = c .before .before in (i .before .loop .inv .2 .kept, (start (i .before .before) .pre .1 .0, (omega arith, (omega arith, omega arith))))
 
 tail-step-requires-2 : tie.Need-tail-step-requires-2 Inv-loop μ-loop
 tail-step-requires-2 c κs =
     let v = c .before .before .before .before .before .before in
     let i = v .before .before .before in
     let r = i .before .loop .inv in
-    (v .tail-step .ensures .kept, (omega arith, (omega arith, omega (arith, i .loop-test .taken))))
+    (v .tail-step .ensures .kept, (start (i .before .before) .pre .1 .0, (omega arith, (omega arith, omega (arith, i .loop-test .taken)))))
 
 add-m : tie.Need-add-m Inv-loop μ-loop
 add-m c = search needs
@@ -42,7 +42,8 @@ loop-again c =
     let v = w .before .before .before .before .before .before .before in
     let i = v .before .before .before in
     let r = i .before .loop .inv in
-    (omega arith, omega arith, all-run-more (r .0) (omega arith) (r .2) (v .tail-step .ensures) (w .tail-step2 .ensures))
+    let h = start (i .before .before) .pre .1 .1 in
+    (omega arith, omega (arith, i .loop-test .taken), all-run-more (r .0) (omega (arith, i .loop-test .taken, h)) (r .2) (v .tail-step .ensures) (w .tail-step2 .ensures))
 
 same-length : tie.Need-same-length Inv-loop μ-loop
 same-length c = c .before .loop .inv .2 .kept .image .size ∙ sym (start (c .before .before) .pre .0 .image .size)

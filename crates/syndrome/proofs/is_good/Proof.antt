@@ -33,7 +33,7 @@ all-zero-requires c κs = search needs
 returns : tie.Need-returns
 returns c =
     let s = c .before .before .before .before .before .before .before in
-    not-good _ _ (sums-not _ _ _ (s .pre) (c .before .all-zero .ensures) (not-true _ (c .if1 .taken)))
+    not-good _ _ (sums-not _ _ _ (s .pre .0) (s .pre .1) (c .before .all-zero .ensures) (not-true _ (c .if1 .taken)))
 
 tail-zero-requires : tie.Need-tail-zero-requires
 tail-zero-requires c κs = search needs
@@ -41,7 +41,7 @@ tail-zero-requires c κs = search needs
 returns-2 : tie.Need-returns-2
 returns-2 c =
     let s = c .before .before .before .before .before .before .before .before .before in
-    not-good _ _ (λ g. c .before .tail-zero .ensures .not-all (not-true _ (c .if2 .taken)) (good-tail _ _ _ (s .pre) g A))
+    not-good _ _ (λ g. c .before .tail-zero .ensures .not-all (not-true _ (c .if2 .taken)) (good-tail _ _ _ (s .pre .0) (s .pre .1) g A))
 
 tail-zero-requires-2 : tie.Need-tail-zero-requires-2
 tail-zero-requires-2 c κs = search needs
@@ -52,11 +52,11 @@ returns-3 c =
     let a = t .before .before in
     let s = a .before .before .before .before .before .before in
     record {
-      yes-good = λ e. makes-good _ _ _ (s .pre)
-          (sums-zero _ _ _ (s .pre) (a .all-zero .ensures) (not-false _ (t .before .if1 .left)))
+      yes-good = λ e. makes-good _ _ _ (s .pre .0) (s .pre .1)
+          (sums-zero _ _ _ (s .pre .0) (s .pre .1) (a .all-zero .ensures) (not-false _ (t .before .if1 .left)))
           (t .tail-zero .ensures .all (not-false _ (c .before .if2 .left)))
           (c .tail-zero2 .ensures .all e);
-      not-good = λ e g. c .tail-zero2 .ensures .not-all e (good-tail _ _ _ (s .pre) g B);
+      not-good = λ e g. c .tail-zero2 .ensures .not-all e (good-tail _ _ _ (s .pre .0) (s .pre .1) g B);
     }
 
 pub is-good-spec : {M : Type 1} → statement M

@@ -11,17 +11,17 @@ use Rattle.trace.proofs.search.Statement.{statement}
 use Rattle.trace.proofs.search.Tie as tie
 
 abbrev Inv-loop : tie.InvT-loop
-Inv-loop z w marks x y need rows found₀ start in-a in-b l form₀ fits₀ a b₀ found form fits b = (b ≤ in-b + 1) × (fits ≡ false) × Seeking z w (marked (shape z) marks) rows need start a b found
+Inv-loop z w marks x y need rows found₀ start in-a in-b form₀ fits₀ a b₀ found form fits b = (b ≤ in-b + 1) × (fits ≡ false) × Seeking z w (marked (shape z) marks) rows need start a b found
 
 abbrev μ-loop : tie.MeasureT-loop
-μ-loop z w marks x y need rows found₀ start in-a in-b l form₀ fits₀ a b₀ found form fits b = in-b + 1 - b
+μ-loop z w marks x y need rows found₀ start in-a in-b form₀ fits₀ a b₀ found form fits b = in-b + 1 - b
 
 abbrev Inv-search : tie.InvT-search
-Inv-search z w marks x y need rows found₀ start in-a in-b l form₀ fits₀ a₀ b₀ found form fits a b =
+Inv-search z w marks x y need rows found₀ start in-a in-b form₀ fits₀ a₀ b₀ found form fits a b =
     (a ≤ in-a + 1) × (fits ≡ false) × Seeking z w (marked (shape z) marks) rows need start a 0 found
 
 abbrev μ-search : tie.MeasureT-search
-μ-search z w marks x y need rows found₀ start in-a in-b l form₀ fits₀ a₀ b₀ found form fits a b = in-a + 1 - a
+μ-search z w marks x y need rows found₀ start in-a in-b form₀ fits₀ a₀ b₀ found form fits a b = in-a + 1 - a
 
 add-in-a : tie.Need-add-in-a Inv-loop μ-loop Inv-search μ-search
 add-in-a c = search needs
@@ -29,32 +29,23 @@ add-in-a c = search needs
 add-in-b : tie.Need-add-in-b Inv-loop μ-loop Inv-search μ-search
 add-in-b c = search needs
 
-add-l : tie.Need-add-l Inv-loop μ-loop Inv-search μ-search
-add-l c = search needs
-
-add-l-2 : tie.Need-add-l-2 Inv-loop μ-loop Inv-search μ-search
-add-l-2 c = search needs
-
-add-l-3 : tie.Need-add-l-3 Inv-loop μ-loop Inv-search μ-search
-add-l-3 c = search needs
-
 form-of-requires : tie.Need-form-of-requires Inv-loop μ-loop Inv-search μ-search
-form-of-requires c κs = let s = c .before .before .before .before .before .before .pre .0 in (s .small, (s .in-a .sorted, s .in-b .sorted))
+form-of-requires c κs = let s = c .before .before .before .before .pre .0 in (s .small, (s .in-a .sorted, s .in-b .sorted))
 
 search-holds : tie.Need-search-holds Inv-loop μ-loop Inv-search μ-search
-search-holds c = (omega arith, refl, seeking-none _ _ _ _ _ _ _ (c .before .before .before .before .before .before .before .pre .1))
+search-holds c = (omega arith, refl, seeking-none _ _ _ _ _ _ _ (c .before .before .before .before .before .pre .1))
 
 loop-holds : tie.Need-loop-holds Inv-loop μ-loop Inv-search μ-search
 loop-holds c = let i = c .before .search .inv in (omega arith, i .1, i .2)
 
 try-choice-requires : tie.Need-try-choice-requires Inv-loop μ-loop Inv-search μ-search
 try-choice-requires c κs =
-    let s = c .before .before .before .before .before .before .before .before .before .before .before .before .pre .0 in
+    let s = c .before .before .before .before .before .before .before .before .before .before .pre .0 in
     let i = c .before .before .loop .inv in
     (s, (i .2 .fresh, record { small = s .small; in-a = omega arith; in-b = omega arith }))
 
 add-b : tie.Need-add-b Inv-loop μ-loop Inv-search μ-search
-add-b c = omega (arith, c .before .before .before .before .before .before .before .before .before .before .before .before .before .before .before .before .before .pre .0 .small)
+add-b c = omega (arith, c .before .before .before .before .before .before .before .before .before .before .before .before .before .before .before .pre .0 .small)
 
 loop-less : tie.Need-loop-less Inv-loop μ-loop Inv-search μ-search
 loop-less c = search needs
@@ -65,7 +56,7 @@ loop-again c =
     (omega arith, i .1, seeking-more _ _ _ _ _ _ _ _ _ (i .2) _ _ (c .if1 .left) (c .before .before .before .before .try-choice .ensures))
 
 add-a : tie.Need-add-a Inv-loop μ-loop Inv-search μ-search
-add-a c = omega (arith, c .before .before .before .before .before .before .before .before .before .before .before .pre .0 .small)
+add-a c = omega (arith, c .before .before .before .before .before .before .before .before .before .pre .0 .small)
 
 search-less : tie.Need-search-less Inv-loop μ-loop Inv-search μ-search
 search-less c = search needs
@@ -77,14 +68,14 @@ same-length : tie.Need-same-length Inv-loop μ-loop Inv-search μ-search
 same-length c = search needs
 
 returns : tie.Need-returns Inv-loop μ-loop Inv-search μ-search
-returns c = let i = c .before .search .inv in seeking-all _ _ _ _ _ _ _ _ _ (i .2) (c .before .before .before .before .before .before .before .before .before .pre .0 .small) (omega arith) _ (i .1)
+returns c = let i = c .before .search .inv in seeking-all _ _ _ _ _ _ _ _ _ (i .2) (c .before .before .before .before .before .before .before .pre .0 .small) (omega arith) _ (i .1)
 
 same-length-2 : tie.Need-same-length-2 Inv-loop μ-loop Inv-search μ-search
-same-length-2 c = c .before .before .before .before .try-choice .ensures .fresh .rows .size ∙ sym (c .before .before .before .before .before .before .before .before .before .before .before .before .before .before .before .before .before .pre .1 .rows .size)
+same-length-2 c = c .before .before .before .before .try-choice .ensures .fresh .rows .size ∙ sym (c .before .before .before .before .before .before .before .before .before .before .before .before .before .before .before .pre .1 .rows .size)
 
 returns-2 : tie.Need-returns-2 Inv-loop μ-loop Inv-search μ-search
 returns-2 c =
-    let s = c .before .before .before .before .before .before .before .before .before .before .before .before .before .before .before .before .before .pre .0 in
+    let s = c .before .before .before .before .before .before .before .before .before .before .before .before .before .before .before .pre .0 in
     searched _ _ _ _ _ _ _ _ _ _ (c .if1 .taken) (record { small = s .small; in-a = omega arith; in-b = omega arith }) (c .before .before .before .before .try-choice .ensures)
 
 pub search-spec : {M : Type 1} → statement M
@@ -97,9 +88,6 @@ search-spec =
     μ-search
     add-in-a
     add-in-b
-    add-l
-    add-l-2
-    add-l-3
     form-of-requires
     search-holds
     loop-holds

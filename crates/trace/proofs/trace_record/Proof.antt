@@ -6,7 +6,6 @@ use Rattle.code.specs.Record.{A, B}
 use Rattle.track.proofs.Cells.{copied-all}
 use Rattle.repair.proofs.Blank.{blank-rows, blank-fresh}
 use Rattle.repair.proofs.Working.{pivot-right}
-use Rattle.repair.proofs.Records.{given-within}
 use Rattle.trace.proofs.Records.{searched-only, trace-found, trace-none}
 use borrow.Author.Needs.{needs}
 use Rattle.trace.proofs.trace_record.Statement.{statement}
@@ -34,13 +33,13 @@ slice-aggregate-find-three : tie.Need-slice-aggregate-find-three
 slice-aggregate-find-three c = search needs
 
 find-three-requires : tie.Need-find-three-requires
-find-three-requires c κs = let g = c .before .before .before .before .before .before .before .before .before .before .before .before .pre .0 in (g .small, (omega arith, (omega (arith, g .marks-size, g .small), given-within _ _ _ _ g .in-set A)))
+find-three-requires c κs = let g = c .before .before .before .before .before .before .before .before .before .before .before .before .pre .0 in (g .small, (omega arith, (omega (arith, g .marks-size, g .small), g .within .in-set A)))
 
 slice-aggregate-find-three-2 : tie.Need-slice-aggregate-find-three-2
 slice-aggregate-find-three-2 c = search needs
 
 find-three-requires-2 : tie.Need-find-three-requires-2
-find-three-requires-2 c κs = let g = c .before .before .before .before .before .before .before .before .before .before .before .before .before .before .pre .0 in (g .small, (omega arith, (omega (arith, g .marks-size, g .small), given-within _ _ _ _ g .in-set B)))
+find-three-requires-2 c κs = let g = c .before .before .before .before .before .before .before .before .before .before .before .before .before .before .pre .0 in (g .small, (omega arith, (omega (arith, g .marks-size, g .small), g .within .in-set B)))
 
 slice-aggregate-find-start : tie.Need-slice-aggregate-find-start
 slice-aggregate-find-start c = search needs
@@ -61,8 +60,7 @@ search-requires c κs =
         small = g .small;
         sums = c .before .before .before .before .before .before .before .before .before .before .before .prepare .ensures .sums-in .rows;
         marks-size = g .marks-size;
-        coded = g .coded;
-        below = c .before .before .before .before .before .before .before .before .before .before .before .before .before .before .before .before .before .before .before .pre .1;
+        within = c .before .before .before .before .before .before .before .before .before .before .before .before .before .before .before .before .before .before .before .pre .1;
         in-a = c .before .before .before .before .before .before .find-three .ensures;
         in-b = c .before .before .before .before .find-three2 .ensures;
         started = c .before .before .find-start .ensures;

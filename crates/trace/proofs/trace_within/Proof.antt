@@ -1,5 +1,5 @@
 -- `trace_within`: the checks come in their order, that of the ceiling after 5, and the record is worked on in the first part of the output.
-use mathlib.Core.Path.{_≡_, sym, ap, _∙_}
+use mathlib.Core.Path.{_≡_, refl, sym, ap, _∙_}
 use mathlib.Core.Logic.{_≢_}
 use denote.Ref.{now}
 use native.Mathlib.Omega.{arith}
@@ -13,7 +13,7 @@ use Rattle.code.specs.Calls.{early-checks}
 use Rattle.code.proofs.Codes.{flags-small}
 use Rattle.solver.specs.Solver.{marked}
 use Rattle.repair.proofs.Calling.{passed, small, read-image, has-room, given}
-use Rattle.trace.proofs.Calling.{both-below, refused, too-high, too-many, traced}
+use Rattle.trace.proofs.Calling.{both-within, refused, too-high, too-many, traced}
 use borrow.Author.Needs.{needs}
 use Rattle.trace.proofs.trace_within.Statement.{statement}
 use Rattle.trace.proofs.trace_within.Tie as tie
@@ -91,7 +91,7 @@ trace-record-requires : tie.Need-trace-record-requires
 trace-record-requires c κs =
     let e = c .before .before .before .before .before .before .before in (
       given _ _ _ _ (passes e) _ (c .before .before .before .before .before .before .call-marks .ensures) (coded (c .before .before)),
-      both-below _ _ _ (reach-is (c .before)),
+      both-within _ _ _ _ refl (coded (c .before .before)) (reach-is (c .before)),
     )
 
 same-length : tie.Need-same-length

@@ -1,8 +1,11 @@
 -- `try_choice`: the form is that of the flagged tracks and the extras.
+use mathlib.Core.Path.{refl}
 use native.Mathlib.Omega.{arith}
 use borrow.Author.Tests.{not-true, not-false}
 use Rattle.code.specs.Record.{A, B}
-use Rattle.repair.proofs.Making.{start-quiet}
+use Rattle.code.specs.Sizes.{shape}
+use Rattle.code.proofs.Cell.{vertical-data, vertical-within}
+use Rattle.repair.proofs.Making.{start-quiet, found-as}
 use Rattle.trace.proofs.Trying.{three-a, three-b, choice-form, choice-passed, choice-unexplained, choice-tried}
 use borrow.Author.Needs.{needs}
 use Rattle.trace.proofs.try_choice.Statement.{statement}
@@ -26,14 +29,8 @@ explains-requires-2 c κs = search needs
 returns-3 : tie.Need-returns-3
 returns-3 c = let s = c .before .before .before .before .before .before .before .before .pre in choice-unexplained _ _ _ _ _ _ _ (s .0) _ _ (s .1 .1) _ B _ (not-true _ (c .if3 .taken)) (c .before .explains2 .ensures) _ (s .1 .0) _
 
-add-l : tie.Need-add-l
-add-l c = search needs
-
-add-l-2 : tie.Need-add-l-2
-add-l-2 c = search needs
-
-add-l-3 : tie.Need-add-l-3
-add-l-3 c = search needs
+vertical-end-requires : tie.Need-vertical-end-requires
+vertical-end-requires c κs = search needs
 
 insert-requires : tie.Need-insert-requires
 insert-requires c κs = search needs
@@ -43,29 +40,30 @@ insert-requires-2 c κs = search needs
 
 form-of-requires : tie.Need-form-of-requires
 form-of-requires c κs =
-    let s = c .before .before .before .before .before .before .before .before .before .before .before .before .pre in
+    let s = c .before .before .before .before .before .before .before .before .before .before .before .pre in
     let i = c .before .insert .ensures in
     let j = c .insert2 .ensures in
-    (s .0 .small, (three-a _ _ _ _ _ _ _ (s .0) _ _ (s .1 .1) (c .before .before .before .before .before .before .before .before .before .allows .ensures .yes-allowed (not-false _ (c .before .before .before .before .before .before .before .before .if1 .left))) _ _ i j .sorted, three-b _ _ _ _ _ _ _ (s .0) _ _ (s .1 .1) (c .before .before .before .before .before .before .before .before .before .allows .ensures .yes-allowed (not-false _ (c .before .before .before .before .before .before .before .before .if1 .left))) _ _ i j .sorted))
+    (s .0 .small, (three-a _ _ _ _ _ _ _ (s .0) _ _ (s .1 .1) (c .before .before .before .before .before .before .before .before .allows .ensures .yes-allowed (not-false _ (c .before .before .before .before .before .before .before .if1 .left))) _ _ i j .sorted, three-b _ _ _ _ _ _ _ (s .0) _ _ (s .1 .1) (c .before .before .before .before .before .before .before .before .allows .ensures .yes-allowed (not-false _ (c .before .before .before .before .before .before .before .if1 .left))) _ _ i j .sorted))
 
 find-requires : tie.Need-find-requires
 find-requires c κs =
-    let s = c .before .before .before .before .before .before .before .before .before .before .before .before .before .before .pre in
-    let p = choice-form _ _ _ _ _ _ _ (s .0) _ _ (s .1 .1) (c .before .before .before .before .before .before .before .before .before .before .before .allows .ensures .yes-allowed (not-false _ (c .before .before .before .before .before .before .before .before .before .before .if1 .left))) _ _ (c .before .before .before .insert .ensures) (c .before .before .insert2 .ensures) _ (c .before .form-of .ensures) in
+    let e = c .before .before .before .before .vertical-end .ensures in
+    let s = c .before .before .before .before .before .before .before .before .before .before .before .before .before .pre in
+    let p = choice-form _ _ _ _ _ _ _ (s .0) _ _ (s .1 .1) (c .before .before .before .before .before .before .before .before .before .before .allows .ensures .yes-allowed (not-false _ (c .before .before .before .before .before .before .before .before .before .if1 .left))) _ _ (c .before .before .before .insert .ensures) (c .before .before .insert2 .ensures) _ (c .before .form-of .ensures) in
     let w = s .0 .started in
-    (record { small = s .0 .small; end-small = omega arith; sized = p .sized; sums = s .0 .sums; errors = s .1 .0 .rows }, (w .within, (start-quiet _ _ _ w, s .1 .0)))
+    (record { small = s .0 .small; end-data = omega (arith, e, vertical-data (shape (c .before .before .before .before .before .before .before .before .before .before .before .before .before .args .z))); end-small = omega (arith, e, vertical-within (shape (c .before .before .before .before .before .before .before .before .before .before .before .before .before .args .z))); sized = p .sized; sums = s .0 .sums; errors = s .1 .0 .rows }, (w .within, (start-quiet _ _ _ w, s .1 .0)))
 
 same-length : tie.Need-same-length
 same-length c = search needs
 
 returns-4 : tie.Need-returns-4
 returns-4 c =
-    let s = c .before .before .before .before .before .before .before .before .before .before .before .before .before .before .before .before .before .pre in
-    let p = choice-form _ _ _ _ _ _ _ (s .0) _ _ (s .1 .1) (c .before .before .before .before .before .before .before .before .before .before .before .before .before .before .allows .ensures .yes-allowed (not-false _ (c .before .before .before .before .before .before .before .before .before .before .before .before .before .if1 .left))) _ _ (c .before .before .before .before .before .before .insert .ensures) (c .before .before .before .before .before .insert2 .ensures) _ (c .before .before .before .before .form-of .ensures) in
+    let s = c .before .before .before .before .before .before .before .before .before .before .before .before .before .before .before .before .pre in
+    let p = choice-form _ _ _ _ _ _ _ (s .0) _ _ (s .1 .1) (c .before .before .before .before .before .before .before .before .before .before .before .before .before .allows .ensures .yes-allowed (not-false _ (c .before .before .before .before .before .before .before .before .before .before .before .before .if1 .left))) _ _ (c .before .before .before .before .before .before .insert .ensures) (c .before .before .before .before .before .insert2 .ensures) _ (c .before .before .before .before .form-of .ensures) in
     let w = c .before .before .find .ensures in
-    choice-tried _ _ _ _ _ _ _ (s .0) _ _ (s .1 .1) _ (c .before .before .before .before .before .before .before .before .before .before .before .before .before .before .allows .ensures .yes-allowed (not-false _ (c .before .before .before .before .before .before .before .before .before .before .before .before .before .if1 .left)))
-    (elim [ A ↦ c .before .before .before .before .before .before .before .before .before .before .before .before .explains .ensures .yes-explained (not-false _ (c .before .before .before .before .before .before .before .before .before .before .before .if2 .left)) | B ↦ c .before .before .before .before .before .before .before .before .before .before .explains2 .ensures .yes-explained (not-false _ (c .before .before .before .before .before .before .before .before .before .if3 .left)) ])
-    _ p _ (w .0) _ (w .1)
+    choice-tried _ _ _ _ _ _ _ (s .0) _ _ (s .1 .1) _ (c .before .before .before .before .before .before .before .before .before .before .before .before .before .allows .ensures .yes-allowed (not-false _ (c .before .before .before .before .before .before .before .before .before .before .before .before .if1 .left)))
+    (elim [ A ↦ c .before .before .before .before .before .before .before .before .before .before .before .explains .ensures .yes-explained (not-false _ (c .before .before .before .before .before .before .before .before .before .before .if2 .left)) | B ↦ c .before .before .before .before .before .before .before .before .before .explains2 .ensures .yes-explained (not-false _ (c .before .before .before .before .before .before .before .before .if3 .left)) ])
+    _ p _ (w .0) _ (found-as _ _ _ _ _ _ _ _ (c .before .before .before .before .before .before .before .vertical-end .ensures) refl (w .1))
 
 pub try-choice-spec : {M : Type 1} → statement M
 try-choice-spec =
@@ -77,9 +75,7 @@ try-choice-spec =
     returns-2
     explains-requires-2
     returns-3
-    add-l
-    add-l-2
-    add-l-3
+    vertical-end-requires
     insert-requires
     insert-requires-2
     form-of-requires
