@@ -117,7 +117,22 @@ fn write_checks(out: &mut [u8], first: &mut [u8], z: Sizes, s: usize)
     put_track(out, syndrome::track_number(z, s, count + 1), first);
 }
 
-// Writes the good record of a payload, of seven data tracks a set and with a closed tail.
+// Writes the good record of a payload, of seven data tracks a set and with a closed tail, by way of tracks 0 of A and of B.
+fn write_by(out: &mut [u8], z: Sizes, payload: &[u8], blocks: usize, a: &mut [u8], b: &mut [u8])
+    requires { ⌜ Sized z blocks (now out) (now payload) ⌝ }
+    requires { ⌜ Sevens (shape z) blocks ⌝ }
+    requires { ⌜ z .closed ≡ true ⌝ }
+    requires { ⌜ length (now a) ≡ track-length (shape z) ⌝ }
+    requires { ⌜ length (now b) ≡ track-length (shape z) ⌝ }
+    ensures { λ _. ⌜ GoodRecord (shape z) blocks (now (payload .entry)) (now (out .exit)) ⌝ }
+{
+    write_data(out, z, payload, blocks);
+    registers::carry(a, b, payload, blocks);
+    write_checks(out, a, z, 0);
+    write_checks(out, b, z, 1);
+}
+
+// The same, with room made for the tracks. A short record takes less.
 fn write_record(out: &mut [u8], z: Sizes, payload: &[u8], blocks: usize)
     requires { ⌜ Sized z blocks (now out) (now payload) ⌝ }
     requires { ⌜ Sevens (shape z) blocks ⌝ }
@@ -125,14 +140,15 @@ fn write_record(out: &mut [u8], z: Sizes, payload: &[u8], blocks: usize)
     ensures { λ _. ⌜ GoodRecord (shape z) blocks (now (payload .entry)) (now (out .exit)) ⌝ }
 {
     let l = 8 * blocks + 15;
-    write_data(out, z, payload, blocks);
-    let mut room_a = [0u8; 2063];
-    let mut room_b = [0u8; 2063];
-    let a = &mut room_a[..l];
-    let b = &mut room_b[..l];
-    registers::carry(a, b, payload, blocks);
-    write_checks(out, a, z, 0);
-    write_checks(out, b, z, 1);
+    if l <= 143 {
+        let mut room_a = [0u8; 143];
+        let mut room_b = [0u8; 143];
+        write_by(out, z, payload, blocks, &mut room_a[..l], &mut room_b[..l]);
+    } else {
+        let mut room_a = [0u8; 2063];
+        let mut room_b = [0u8; 2063];
+        write_by(out, z, payload, blocks, &mut room_a[..l], &mut room_b[..l]);
+    }
 }
 
 // Encoder: the payload's good record goes to the start of the output.

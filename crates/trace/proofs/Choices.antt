@@ -19,7 +19,7 @@ use Rattle.code.specs.Sizes.{shape, Small}
 use Rattle.code.specs.declared.Sizes.{Sizes}
 use Rattle.code.specs.declared.Reach.{Reach}
 use Rattle.solver.specs.Solver.{marked}
-use Rattle.trace.specs.Steps.{extra-at, choice-at, IsChoice, OneMore, Widened, Free, Allows, Fits}
+use Rattle.trace.specs.Steps.{extra-at, choice-at, IsChoice, OneMore, Widened, Free, Allows, LastA, LastB, Fits}
 
 -- The number of an extra track.
 pub number-of : (e t : ℕ) → extra-at e ≡ extra t → e ≡ suc t
@@ -118,6 +118,33 @@ allowed-at z w f a b c p q r u v = record {
   track = elim [ A ↦ λ t e. omega (arith, number-of a t e, c .in-a) | B ↦ λ t e. omega (arith, number-of b t e, c .in-b) ];
   unflagged = elim [ A ↦ λ t e. u t (number-of a t e) | B ↦ λ t e. v t (number-of b t e) ];
 }
+
+-- An allowed extra is a track of its set, or none.
+allowed-le : (sh : Shape) (w : Reach) (f : TrackFlags) (e : Choice) → Allowed sh w f e → (s : TrackSet) (k : ℕ) → e s ≡ extra-at k → k ≤ tracks sh s
+allowed-le sh w f e h s zero i = omega arith
+allowed-le sh w f e h s (suc t) i = h .track s t i
+
+module _ (z : Sizes) (w : Reach) where
+  -- No extra is allowed in A.
+  pub none-a : w .a ≡ 0 → LastA z w 0
+  none-a h = record { within = omega arith; past = λ f a b l n. omega (arith, size-some a (omega arith), n .in-set A) }
+
+  -- The last track of A is the last choice.
+  pub tracks-a : LastA z w (z .t1 + 2)
+  tracks-a = record { within = omega arith; past = λ f a b l n. omega (arith, allowed-le (shape z) w f (choice-at a b) n A a refl) }
+
+  module _ (a : ℕ) where
+    -- No extra is allowed in B.
+    pub none-b : w .b ≡ 0 → LastB z w a 0
+    none-b h = record { within = omega arith; past = λ f b l n. omega (arith, size-some b (omega arith), n .in-set B) }
+
+    -- No second extra is allowed.
+    pub no-second : a ≢ 0 → w .all < 2 → LastB z w a 0
+    no-second d h = record { within = omega arith; past = λ f b l n. omega (arith, size-some a d, size-some b (omega arith), n .in-all) }
+
+    -- The last track of B is the last choice.
+    pub tracks-b : LastB z w a (z .t2 + 2)
+    tracks-b = record { within = omega arith; past = λ f b l n. omega (arith, allowed-le (shape z) w f (choice-at a b) n B b refl) }
 
 -- Every choice that is allowed has its numbers.
 number-at : Extra → ℕ

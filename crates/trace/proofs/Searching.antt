@@ -1,11 +1,13 @@
 -- The search among the choices.
 use mathlib.Core.Path.{_≡_, sym, _∙_}
+use mathlib.Core.Logic.{by-cases}
 use mathlib.Core.Bool.{true, false, true≢false}
 use mathlib.Core.List.{List}
 use Prim.Native.Nat.{ℕ, _+_, _<_, _≤_}
+use native.Mathlib.Decide.{decLt}
 use native.Mathlib.Omega.{arith}
 use borrow.Author.Count.{below-more}
-use Rattle.code.specs.Record.{A, B, tracks, Cells}
+use Rattle.code.specs.Record.{B, tracks, Cells}
 use Rattle.code.specs.Flags.{TrackFlags}
 use Rattle.code.specs.Sizes.{shape, Small}
 use Rattle.code.specs.declared.Sizes.{Sizes}
@@ -15,7 +17,7 @@ use Rattle.repair.specs.declared.Needs.{Needs}
 use Rattle.repair.specs.Steps.{Prepared}
 use Rattle.trace.specs.declared.Trial.{Trial}
 use Rattle.trace.specs.declared.Hit.{Hit}
-use Rattle.trace.specs.Steps.{choice-at, IsChoice, Fits, Tried, Searched}
+use Rattle.trace.specs.Steps.{choice-at, IsChoice, LastA, LastB, Fits, Tried, Searched}
 use Rattle.trace.proofs.Choices.{reach-fits}
 
 -- No good record is in reach by the choice a, b, of whatever record these are the sums.
@@ -43,20 +45,22 @@ module _ (z : Sizes) (w : Reach) (f : TrackFlags) (rows : List ℕ) (need : Need
     }
 
     -- One row of choices more.
-    pub seeking-row : tracks (shape z) B < b → Seeking z w f rows need start (a + 1) 0 found
-    seeking-row h = record {
+    pub seeking-row : (last : ℕ) → LastB z w a last → last < b → Seeking z w f rows need start (a + 1) 0 found
+    seeking-row last in-b h = record {
       fresh = s .fresh;
-      rows-tried = below-more _ a (s .rows-tried) (λ l k. s .row-tried l (omega arith));
+      rows-tried = below-more _ a (s .rows-tried) (λ l k. by-cases (decLt l b) (s .row-tried l) (λ d image out prepared y n. in-b .past f l (omega arith) (n .allowed)));
       row-tried = λ l k. absurd (omega arith);
     }
 
     -- All of them.
-    pub seeking-all : Small z → tracks (shape z) A < a → (r : Hit) → r .found ≡ false → Searched z w f rows need found r
-    seeking-all small h r e = record {
+    pub seeking-all : Small z → (last : ℕ) → LastA z w last → last < a → (r : Hit) → r .found ≡ false → Searched z w f rows need found r
+    seeking-all small last in-a h r e = record {
       words = s .fresh .rows;
       is-choice = λ i. absurd (true≢false (sym i ∙ e));
       fits = λ i. absurd (true≢false (sym i ∙ e));
-      no-record = λ i image out prepared y g n. reach-fits z w f image y small g n (λ k l c. s .rows-tried k (omega (arith, c .in-a)) l (c .in-b) image out prepared y);
+      no-record = λ i image out prepared y g n. reach-fits z w f image y small g n (λ k l c fits. by-cases (decLt k a)
+          (λ j. s .rows-tried k j l (c .in-b) image out prepared y fits)
+          (λ d. in-a .past f k l (omega arith) (fits .allowed)));
     }
 
   -- A choice that fits.

@@ -65,6 +65,15 @@ pub record Allows (sh : Shape) (w : Reach) (f : TrackFlags) (e : Choice) (r : Bo
   pub yes-allowed : r ≡ true → Allowed sh w f e
   pub not-allowed : r ≡ false → Allowed sh w f e → ⊥
 
+-- No choice past r in A is allowed, and none past r in B beside a in A.
+pub record LastA (z : Sizes) (w : Reach) (r : ℕ) : Type 0 where
+  pub within : r ≤ tracks (shape z) A
+  pub past : (f : TrackFlags) (a b : ℕ) → r < a → Allowed (shape z) w f (choice-at a b) → ⊥
+
+pub record LastB (z : Sizes) (w : Reach) (a r : ℕ) : Type 0 where
+  pub within : r ≤ tracks (shape z) B
+  pub past : (f : TrackFlags) (b : ℕ) → r < b → Allowed (shape z) w f (choice-at a b) → ⊥
+
 -- Every choice that a reach allows stays within the limit.
 abbrev pub StaysWithin : Shape → Reach → TrackFlags → Type 0
 StaysWithin sh w f = (e : Choice) → Allowed sh w f e → Within sh (with-extras f e)

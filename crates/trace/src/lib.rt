@@ -14,12 +14,12 @@ ghost use Rattle.code.specs.Reach.{code-reach, size, ceiling-reach, both};
 ghost use Rattle.code.specs.Calls.{Traces};
 ghost use Rattle.code.specs.Contracts.{Traced, TracedWithin};
 ghost use Rattle.code.specs.Answers.{extra-of, result-of};
-ghost use Rattle.code.specs.Sizes.{shape};
+ghost use Rattle.code.specs.Sizes.{shape, Small};
 ghost use Rattle.solver.specs.Solver.{marked};
 ghost use Rattle.changes.specs.Changes.{OnlyMarked};
 ghost use Rattle.errors.specs.Steps.{Fresh};
 ghost use Rattle.repair.specs.Steps.{Given};
-ghost use Rattle.trace.specs.Steps.{HasExtra, named-at, extra-at, choice-at, IsChoice, OneMore, Widened, Free, Allows, StaysWithin, Explains, Traceable, Tried, Searched, mended-at};
+ghost use Rattle.trace.specs.Steps.{HasExtra, named-at, extra-at, choice-at, IsChoice, OneMore, Widened, Free, Allows, LastA, LastB, StaysWithin, Explains, Traceable, Tried, Searched, mended-at};
 
 // ---- What is allowed
 
@@ -128,6 +128,33 @@ fn allows(z: Sizes, w: Reach, marks: [u8; 18], a: usize, b: usize) -> bool
     is_free(marks, z.t1 + 2, b)
 }
 
+// The last choice in A that a reach may allow: none, where it allows no extra there.
+fn last_a(z: Sizes, w: Reach) -> usize
+    requires { ⌜ Small z ⌝ }
+    ensures { λ r. ⌜ LastA z w r ⌝ }
+{
+    if w.a == 0 {
+        return 0;
+    }
+    z.t1 + 2
+}
+
+// The last choice in B that a reach may allow beside a in A.
+fn last_b(z: Sizes, w: Reach, a: usize) -> usize
+    requires { ⌜ Small z ⌝ }
+    ensures { λ r. ⌜ LastB z w a r ⌝ }
+{
+    if w.b == 0 {
+        return 0;
+    }
+    if a != 0 {
+        if w.all < 2 {
+            return 0;
+        }
+    }
+    z.t2 + 2
+}
+
 // ---- What is named
 
 // The extra that is named: a track that was changed.
@@ -222,14 +249,14 @@ fn search(
     requires { ⌜ Fresh (now found) start ⌝ }
     ensures { λ r. ⌜ Searched z w (marked (shape z) marks) (now (rows .entry)) need (now (found .exit)) r ⌝ }
 {
-    let in_a = z.t1 + 2;
-    let in_b = z.t2 + 2;
+    let in_a = last_a(z, w);
     let mut form = plans::form_of(z, x, y);
     let mut fits = false;
     let mut a = 0;
     let mut b = 0;
     'search: while a <= in_a {
         b = 0;
+        let in_b = last_b(z, w, a);
         while b <= in_b {
             let tried = try_choice(z, w, marks, x, y, need, rows, found, start, a, b, form);
             form = tried.form;

@@ -33,7 +33,7 @@ add-residue-at c = search needs
 residue-at-requires : tie.Need-residue-at-requires
 residue-at-requires c κs =
     let p = c .before .before .before .before .before .before .pre in
-    (p .0, (p .0 .sized .q-small, (omega arith, omega (arith, p .0 .small .t1-small))))
+    (p .0, (omega (arith, p .0 .sized), (omega arith, omega (arith, p .0 .small .t1-small))))
 
 rest-requires : tie.Need-rest-requires
 rest-requires c κs = search needs

@@ -11,32 +11,32 @@ use Rattle.trace.proofs.search.Statement.{statement}
 use Rattle.trace.proofs.search.Tie as tie
 
 abbrev Inv-loop : tie.InvT-loop
-Inv-loop z w marks x y need rows found₀ start in-a in-b form₀ fits₀ a b₀ found form fits b = (b ≤ in-b + 1) × (fits ≡ false) × Seeking z w (marked (shape z) marks) rows need start a b found
+Inv-loop z w marks x y need rows found₀ start in-a form₀ fits₀ a b₀ in-b found form fits b = (b ≤ in-b + 1) × (fits ≡ false) × Seeking z w (marked (shape z) marks) rows need start a b found
 
 abbrev μ-loop : tie.MeasureT-loop
-μ-loop z w marks x y need rows found₀ start in-a in-b form₀ fits₀ a b₀ found form fits b = in-b + 1 - b
+μ-loop z w marks x y need rows found₀ start in-a form₀ fits₀ a b₀ in-b found form fits b = in-b + 1 - b
 
 abbrev Inv-search : tie.InvT-search
-Inv-search z w marks x y need rows found₀ start in-a in-b form₀ fits₀ a₀ b₀ found form fits a b =
+Inv-search z w marks x y need rows found₀ start in-a form₀ fits₀ a₀ b₀ found form fits a b =
     (a ≤ in-a + 1) × (fits ≡ false) × Seeking z w (marked (shape z) marks) rows need start a 0 found
 
 abbrev μ-search : tie.MeasureT-search
-μ-search z w marks x y need rows found₀ start in-a in-b form₀ fits₀ a₀ b₀ found form fits a b = in-a + 1 - a
+μ-search z w marks x y need rows found₀ start in-a form₀ fits₀ a₀ b₀ found form fits a b = in-a + 1 - a
 
-add-in-a : tie.Need-add-in-a Inv-loop μ-loop Inv-search μ-search
-add-in-a c = search needs
-
-add-in-b : tie.Need-add-in-b Inv-loop μ-loop Inv-search μ-search
-add-in-b c = search needs
+last-a-requires : tie.Need-last-a-requires Inv-loop μ-loop Inv-search μ-search
+last-a-requires c κs = c .before .before .pre .0 .small
 
 form-of-requires : tie.Need-form-of-requires Inv-loop μ-loop Inv-search μ-search
-form-of-requires c κs = let s = c .before .before .before .before .pre .0 in (s .small, (s .in-a .sorted, s .in-b .sorted))
+form-of-requires c κs = let s = c .before .before .before .pre .0 in (s .small, (s .in-a .sorted, s .in-b .sorted))
 
 search-holds : tie.Need-search-holds Inv-loop μ-loop Inv-search μ-search
-search-holds c = (omega arith, refl, seeking-none _ _ _ _ _ _ _ (c .before .before .before .before .before .pre .1))
+search-holds c = (omega arith, refl, seeking-none _ _ _ _ _ _ _ (c .before .before .before .before .pre .1))
+
+last-b-requires : tie.Need-last-b-requires Inv-loop μ-loop Inv-search μ-search
+last-b-requires c κs = c .before .before .before .before .before .before .pre .0 .small
 
 loop-holds : tie.Need-loop-holds Inv-loop μ-loop Inv-search μ-search
-loop-holds c = let i = c .before .search .inv in (omega arith, i .1, i .2)
+loop-holds c = let i = c .before .before .search .inv in (omega arith, i .1, i .2)
 
 try-choice-requires : tie.Need-try-choice-requires Inv-loop μ-loop Inv-search μ-search
 try-choice-requires c κs =
@@ -62,13 +62,13 @@ search-less : tie.Need-search-less Inv-loop μ-loop Inv-search μ-search
 search-less c = search needs
 
 search-again : tie.Need-search-again Inv-loop μ-loop Inv-search μ-search
-search-again c = let i = c .before .loop .inv in (omega arith, i .1, seeking-row _ _ _ _ _ _ _ _ _ (i .2) (omega arith))
+search-again c = let i = c .before .loop .inv in (omega arith, i .1, seeking-row _ _ _ _ _ _ _ _ _ (i .2) _ (c .before .before .last-b .ensures) (omega arith))
 
 same-length : tie.Need-same-length Inv-loop μ-loop Inv-search μ-search
 same-length c = search needs
 
 returns : tie.Need-returns Inv-loop μ-loop Inv-search μ-search
-returns c = let i = c .before .search .inv in seeking-all _ _ _ _ _ _ _ _ _ (i .2) (c .before .before .before .before .before .before .before .pre .0 .small) (omega arith) _ (i .1)
+returns c = let i = c .before .search .inv in seeking-all _ _ _ _ _ _ _ _ _ (i .2) (c .before .before .before .before .before .before .pre .0 .small) _ (c .before .before .before .last-a .ensures) (omega arith) _ (i .1)
 
 same-length-2 : tie.Need-same-length-2 Inv-loop μ-loop Inv-search μ-search
 same-length-2 c = c .before .before .before .before .try-choice .ensures .fresh .rows .size ∙ sym (c .before .before .before .before .before .before .before .before .before .before .before .before .before .before .before .pre .1 .rows .size)
@@ -86,10 +86,10 @@ search-spec =
     μ-loop
     Inv-search
     μ-search
-    add-in-a
-    add-in-b
+    last-a-requires
     form-of-requires
     search-holds
+    last-b-requires
     loop-holds
     try-choice-requires
     add-b
