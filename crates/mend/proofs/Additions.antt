@@ -1,12 +1,12 @@
 -- Additions to tracks of an image: of a row's cells to one track, and of records one after the other.
 use mathlib.Core.Path.{_≡_, refl, sym, ap, ap₂, _∙_}
 use mathlib.Core.Logic.{by-cases}
-use mathlib.Core.List.{List, _++_}
+use mathlib.Core.List.{List}
 use Prim.Native.Nat.{ℕ, _+_, _*_, _-_, _/_, _%_, _<_, _≤_}
 use native.Mathlib.Decide.{decLt, ℕ-discrete}
 use native.Mathlib.Omega.{arith}
-use borrow.Rule.Slice.PartMut.{putMid, mid-len}
-use lib.ListN.{length, getD, take, drop, length-append, List·getD-append}
+use borrow.Rule.Slice.PartMut.{putMid}
+use lib.ListN.{length, getD, take, drop}
 use lib.Seq.{getD-take, length-take-le}
 use Rattle.code.specs.Record.{TrackSet, A, B, tracks, track-length, Cells, back}
 use Rattle.code.specs.Image.{track-number}
@@ -27,7 +27,7 @@ use Rattle.plans.specs.Plans.{pivot, room, Sized}
 use Rattle.forms.specs.Streams.{Stream}
 use Rattle.forms.specs.Found.{low-sum, errors}
 use Rattle.forms.proofs.Lows.{low-one, low-two, low-same, low-zero, Ordered, form-order}
-use Rattle.errors.specs.Rows.{cell, Rows}
+use Rattle.errors.specs.Rows.{cell}
 use Rattle.mend.specs.Mend.{RowAdded, Added}
 use Rattle.mend.proofs.WordRows.{cell-word}
 
@@ -37,35 +37,27 @@ use Rattle.mend.proofs.WordRows.{cell-word}
 abbrev pub row-words : ℕ → List ℕ → ℕ → List ℕ
 row-words l found row = take (34 * row + 1 + (l + 63) / 64 - (34 * row + 1)) (drop (34 * row + 1) found)
 
-pub row-words-length : (l : ℕ) (found : List ℕ) (row : ℕ) → Rows 5 found → row < 5 → l ≤ 2112 → length (row-words l found row) ≡ (l + 63) / 64
-row-words-length l found row rows r small =
-    mid-len (34 * row + 1) (34 * row + 1 + (l + 63) / 64) found (omega (arith, rows .size)) ∙ omega arith
-
-module _ (l : ℕ) (found : List ℕ) (row : ℕ) (small : l ≤ 2112) (before cells rest : List ℕ) (size : length before ≡ 64 * ((l + 63) / 64))
+module _ (l : ℕ) (found : List ℕ) (row : ℕ) (small : l ≤ 2112) (before cells : List ℕ) (size : length before ≡ 64 * ((l + 63) / 64))
     (s : Spread (row-words l found row) before cells) where
   -- The first l bytes are there, they are the row's cells, and bits.
-  pub front-within : l ≤ length (cells ++ rest)
-  front-within = omega (arith, length-append cells rest, s .size)
+  pub front-length : length (take l cells) ≡ l
+  front-length = length-take-le l cells (omega (arith, s .size))
 
-  pub front-length : length (take l (cells ++ rest)) ≡ l
-  front-length = length-take-le l (cells ++ rest) front-within
-
-  pub front-cell : (m : ℕ) → m < l → getD (take l (cells ++ rest)) m 0 ≡ cell found row m
+  front-cell : (m : ℕ) → m < l → getD (take l cells) m 0 ≡ cell found row m
   front-cell m h =
-      getD-take l (cells ++ rest) m 0 h ∙ List·getD-append cells rest 0 m (omega (arith, s .size)) ∙ s .cells m (omega arith)
-      ∙ cell-in (row-words l found row) (m / 64) (m % 64) m (omega arith) (omega arith)
+      getD-take l cells m 0 h ∙ s .cells m (omega arith) ∙ cell-in (row-words l found row) (m / 64) (m % 64) m (omega arith) (omega arith)
       ∙ ap (λ w. bit w (m % 64)) (part-at found (34 * row + 1) (34 * row + 1 + (l + 63) / 64 - (34 * row + 1)) (m / 64) (omega arith))
       ∙ sym (cell-word found row (m / 64) (m % 64) m (omega arith) (omega arith) (omega arith))
 
-  pub front-bits : track.Bits (take l (cells ++ rest))
-  front-bits = record { bit = every (λ x. x < 2) (take l (cells ++ rest)) (omega arith) (λ m h. low m (omega (arith, front-length))) }
+  pub front-bits : track.Bits (take l cells)
+  front-bits = record { bit = every (λ x. x < 2) (take l cells) (omega arith) (λ m h. low m (omega (arith, front-length))) }
     where
-      low : (m : ℕ) → m < l → getD (take l (cells ++ rest)) m 0 < 2
+      low : (m : ℕ) → m < l → getD (take l cells) m 0 < 2
       low m h = rw (front-cell m h ∙ cell-word found row (m / 64) (m % 64) m (omega arith) (omega arith) (omega arith)) (bit-lt _ _)
 
   -- They are added to a track of an image.
   pub row-added : (g : ℕ) (out last : List ℕ) → track.Bits out → g * l + l ≤ length out →
-      track.Added (part l out g) (take l (cells ++ rest)) 0 last →
+      track.Added (part l out g) (take l cells) 0 last →
       RowAdded l g (cell found row) out (putMid (g * l) (g * l + l - g * l) out last)
   unfolding back
   row-added g out last bits fits a = record {

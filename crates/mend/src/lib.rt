@@ -2,7 +2,7 @@
 use code::Sizes;
 use plans::Form;
 ghost use mathlib.Core.Path.{_≡_};
-ghost use Prim.Native.Nat.{ℕ, _+_, _*_, _<_, _≤_};
+ghost use Prim.Native.Nat.{ℕ, _+_, _*_, _/_, _<_, _≤_};
 ghost use lib.ListN.{length};
 ghost use Rattle.code.specs.Record.{TrackSet, track-length, tail-tracks};
 ghost use Rattle.code.specs.Image.{all-tracks};
@@ -82,8 +82,9 @@ pub fn find_start(rows: &[u64], l: usize) -> usize
 
 // ---- Errors
 
-// Adds the cells of a row to the stretch of track number g, of l cells.
-fn add_row(out: &mut [u8], l: usize, g: usize, found: &[u64], row: usize)
+// Adds the cells of a row to the stretch of track number g, of l cells, by way of bytes.
+fn add_row(out: &mut [u8], l: usize, g: usize, found: &[u64], row: usize, cells: &mut [u8])
+    requires { ⌜ length (now cells) ≡ 64 * ((l + 63) / 64) ⌝ }
     requires { ⌜ Bits (now out) ⌝ }
     requires { ⌜ g * l + l ≤ length (now out) ⌝ }
     requires { ⌜ l ≤ 2112 ⌝ }
@@ -94,15 +95,23 @@ fn add_row(out: &mut [u8], l: usize, g: usize, found: &[u64], row: usize)
     let count = (l + 63) / 64;
     let first = 34 * row + 1;
     let last = first + count;
-    let mut cells = [0u8; 2112];
-    words::unload(&found[first..last], &mut cells[..64 * count]);
+    words::unload(&found[first..last], cells);
     let from = g * l;
     let to = from + l;
     track::add_track(&mut out[from..to], &cells[..l], 0);
 }
 
 // Adds the error of a row to track t of set s.
-fn add_error(out: &mut [u8], z: Sizes, s: usize, t: usize, found: &[u64], row: usize)
+fn add_error(
+    out: &mut [u8],
+    z: Sizes,
+    s: usize,
+    t: usize,
+    found: &[u64],
+    row: usize,
+    cells: &mut [u8],
+)
+    requires { ⌜ length (now cells) ≡ 64 * ((track-length (shape z) + 63) / 64) ⌝ }
     requires { ⌜ IsTrack z s t ⌝ }
     requires { ⌜ Image (shape z) (now out) ⌝ }
     requires { ⌜ Rows 5 (now found) ⌝ }
@@ -110,11 +119,12 @@ fn add_error(out: &mut [u8], z: Sizes, s: usize, t: usize, found: &[u64], row: u
     ensures { λ _. ⌜ Added z (put (set-of s) t (cell (now (found .entry)) row)) (now (out .entry)) (now (out .exit)) ⌝ }
 {
     let l = z.positions + (z.t1 + z.t2 + 1);
-    add_row(out, l, syndrome::track_number(z, s, t), found, row);
+    add_row(out, l, syndrome::track_number(z, s, t), found, row, cells);
 }
 
-// Adds the errors of a form's tracks.
-pub fn add_errors(out: &mut [u8], z: Sizes, p: Form, found: &[u64])
+// Adds the errors of a form's tracks, by way of bytes.
+fn add_by(out: &mut [u8], z: Sizes, p: Form, found: &[u64], cells: &mut [u8])
+    requires { ⌜ length (now cells) ≡ 64 * ((track-length (shape z) + 63) / 64) ⌝ }
     requires { ⌜ Small z ⌝ }
     requires { ⌜ Sized (shape z) p ⌝ }
     requires { ⌜ Image (shape z) (now out) ⌝ }
@@ -125,16 +135,36 @@ pub fn add_errors(out: &mut [u8], z: Sizes, p: Form, found: &[u64])
     let a = p.a;
     let b = p.b;
     if a.room != 0 {
-        add_error(out, z, 0, a.track, found, 2);
+        add_error(out, z, 0, a.track, found, 2, cells);
     }
     if b.room != 0 {
-        add_error(out, z, 1, b.track, found, 3);
+        add_error(out, z, 1, b.track, found, 3, cells);
     }
     if 1 <= p.below {
-        add_error(out, z, p.s, p.v, found, 1);
+        add_error(out, z, p.s, p.v, found, 1, cells);
     }
     if 2 <= p.below {
-        add_error(out, z, p.q, p.u, found, 0);
+        add_error(out, z, p.q, p.u, found, 0, cells);
+    }
+}
+
+// The same, with room made for the bytes. A short record takes less.
+pub fn add_errors(out: &mut [u8], z: Sizes, p: Form, found: &[u64])
+    requires { ⌜ Small z ⌝ }
+    requires { ⌜ Sized (shape z) p ⌝ }
+    requires { ⌜ Image (shape z) (now out) ⌝ }
+    requires { ⌜ Rows 5 (now found) ⌝ }
+    requires { ⌜ ((c : TrackSet) → room p c ≡ 0 → (m : ℕ) → m < track-length (shape z) → cell (now found) (2 + row-of c) m ≡ 0) ⌝ }
+    ensures { λ _. ⌜ Added z (errors p (λ (c : TrackSet). cell (now (found .entry)) (2 + row-of c)) (cell (now (found .entry)) 0) (cell (now (found .entry)) 1)) (now (out .entry)) (now (out .exit)) ⌝ }
+{
+    let l = z.positions + (z.t1 + z.t2 + 1);
+    let size = 64 * ((l + 63) / 64);
+    if l <= 192 {
+        let mut cells = [0u8; 192];
+        add_by(out, z, p, found, &mut cells[..size]);
+    } else {
+        let mut cells = [0u8; 2112];
+        add_by(out, z, p, found, &mut cells[..size]);
     }
 }
 

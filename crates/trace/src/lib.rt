@@ -54,16 +54,16 @@ fn reach_within(code: u8, ceiling: usize) -> Reach
 
 // Whether a choice fits, and the form of its tracks.
 pub struct Trial {
-    pub fits: bool,
     pub form: Form,
+    pub fits: bool,
 }
 
 // A choice that fits, where one was found: 0 for no extra, t + 1 for track t.
 pub struct Hit {
-    pub found: bool,
+    pub form: Form,
     pub a: usize,
     pub b: usize,
-    pub form: Form,
+    pub found: bool,
 }
 
 // The marks and that of an extra: 0 for none, t + 1 for track t of the set whose first track has number `first`.
