@@ -322,8 +322,8 @@ axp_result plain_trace_within(uint32_t blocks, uint32_t flags, uint32_t ceiling,
     prepare(marks, image, image_len, out, l, lost, &sums, need);
     three x = find_three(marks), y = find_three(marks + TRACKS);
     size_t start = find_start(&sums, l);
-    for (size_t a = 0; a <= TRACKS; a++)
-        for (size_t b = 0; b <= TRACKS; b++) {
+    for (size_t a = 0; a <= last_a(reach); a++)
+        for (size_t b = 0; b <= last_b(reach, a); b++) {
             if (!allows(reach, marks, a, b) || (need[0] != 0 && need[0] != a) || (need[1] != 0 && need[1] != b))
                 continue;
             form p = form_of(l, insert(x, a), insert(y, b));

@@ -846,6 +846,17 @@ static bool allows(struct reach reach, const uint8_t marks[ALL], size_t a, size_
     return is_free(marks, a) && is_free(marks + TRACKS, b);
 }
 
+/* The last choice in A that a reach may allow, and the last in B beside a in A. */
+static inline size_t last_a(struct reach reach)
+{
+    return reach.a == 0 ? 0 : TRACKS;
+}
+
+static inline size_t last_b(struct reach reach, size_t a)
+{
+    return reach.b == 0 || (a != 0 && reach.all < 2) ? 0 : TRACKS;
+}
+
 #ifdef CLOSED_FORMS
 #include "closed.h"
 #else
@@ -870,8 +881,8 @@ axp_result plain_trace_within(uint32_t blocks, uint32_t flags, uint32_t ceiling,
     struct reach reach = reach_of(code, ceiling);
     copy_known(out, image, image_len, lost);
     syndromes(out, l, first);
-    for (size_t a = 0; a <= TRACKS; a++)
-        for (size_t b = 0; b <= TRACKS; b++) {
+    for (size_t a = 0; a <= last_a(reach); a++)
+        for (size_t b = 0; b <= last_b(reach, a); b++) {
             if (!allows(reach, marks, a, b))
                 continue;
             widen(marks, a, b, wide);
