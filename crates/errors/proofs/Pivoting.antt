@@ -1,6 +1,7 @@
 -- The words of the test: what is left of the diagonals and of the verticals.
 use mathlib.Core.Path.{_≡_, refl, sym, ap, subst, _∙_}
 use mathlib.Core.Logic.{_≢_, by-cases}
+use mathlib.Core.Bool.{Bool, true, false, true≢false}
 use mathlib.Core.List.{List}
 use Prim.Native.Nat.{ℕ, zero, suc, _+_, _*_, _-_, _<_, _≤_, _%_, _^_}
 use native.Mathlib.Decide.{decLt}
@@ -23,8 +24,9 @@ use Rattle.forms.specs.Forms.{left, met}
 use Rattle.forms.specs.Found.{low-sum, only-in, residue, pivot-sum}
 use Rattle.forms.proofs.Shifts.{cut-in, cut-out}
 use Rattle.forms.proofs.Lows.{low-one, low-two, low-same, low-zero}
+use Rattle.forms.proofs.Implied.{implied}
 use Rattle.errors.specs.Rows.{cell, diagonals, verticals, Shown, Put}
-use Rattle.errors.specs.Steps.{DiagonalTold, PivotWord, PivotPut}
+use Rattle.errors.specs.Steps.{ComputedIn, Given, ImpliedTold, DiagonalTold, PivotWord, PivotPut}
 use Rattle.errors.proofs.Cells.{cell-index, same-bits}
 use Rattle.errors.proofs.Words.{in-word, put-later}
 use Rattle.errors.proofs.Shown.{shown-xor, shown-same, shown-at}
@@ -81,6 +83,23 @@ pub diagonal-told : (z : Sizes) (end : ℕ) (p : Form) (rows found : List ℕ) (
 diagonal-told z end p rows found d i v w n s f e q = let q′ = subst (λ k. First v k w) e q in record {
   right = λ t. zero-right _ _ i v w f q′ (eqb-true w 0 t);
   wrong = λ t h. eqb-false w 0 t (zero-wrong _ _ i v w f q′ s h);
+}
+
+-- Where no sum can be wrong.
+pub diagonal-implied : (z : Sizes) (end : ℕ) (p : Form) (rows found : List ℕ) → Given z end p rows found → (d i : ℕ) (r : Bool) → r ≡ true → ImpliedTold z p d i r →
+    ComputedIn z end p rows found (64 * (i + 1)) → DiagonalTold z end p rows found (set-of d) i true
+diagonal-implied z end p rows found given d i r e t computed = record {
+  right = λ _ m a b l. implied (shape z) end p (diagonals rows) (verticals rows) (cell found 4) (cell found 0) (cell found 1) (64 * (i + 1)) (given .sized) (given .end-data) (given .end-small)
+      computed (t .below e) (set-of d) (λ n. t .two e (λ k. n (ap set-of k))) m (omega (arith, t .past e, given .small)) (omega (arith, t .in-data e)) b;
+  wrong = λ f. absurd (true≢false f);
+}
+
+pub not-implied : (z : Sizes) (p : Form) (d i : ℕ) → ImpliedTold z p d i false
+not-implied z p d i = record {
+  below = λ e. absurd (true≢false (sym e));
+  two = λ e. absurd (true≢false (sym e));
+  past = λ e. absurd (true≢false (sym e));
+  in-data = λ e. absurd (true≢false (sym e));
 }
 
 -- ## What is left of the vertical of set c

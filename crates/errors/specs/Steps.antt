@@ -109,6 +109,13 @@ pub record PivotPut (z : Sizes) (end : ℕ) (p : Form) (rows before : List ℕ) 
   pub wrong : r ≡ false → ((m : ℕ) → 64 * i ≤ m → m < 64 * (i + 1) → m < end → room p c ≤ m →
       pivot-sum (shape z) end p (diagonals rows) (verticals rows) (cell before 0) (cell before 1) c m % 2 ≡ 0) → ⊥
 
+-- r is true in words of the data past the first alone, where there is a track below the pivots, and for both diagonals where there are two.
+pub record ImpliedTold (z : Sizes) (p : Form) (d i : ℕ) (r : Bool) : Type 0 where
+  pub below : r ≡ true → 1 ≤ p .below
+  pub two : r ≡ true → d ≢ p .s → 2 ≤ p .below
+  pub past : r ≡ true → 1 ≤ i
+  pub in-data : r ≡ true → 64 * (i + 1) ≤ z .positions
+
 -- r says whether the diagonal of set d is 0 in word i.
 pub record DiagonalTold (z : Sizes) (end : ℕ) (p : Form) (rows found : List ℕ) (d : TrackSet) (i : ℕ) (r : Bool) : Type 0 where
   pub right : r ≡ true → (m : ℕ) → 64 * i ≤ m → m < 64 * (i + 1) → m < track-length (shape z) →

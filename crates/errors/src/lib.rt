@@ -36,6 +36,7 @@ ghost use Rattle.errors.specs.Steps.{
   Extended,
   PivotWord,
   PivotPut,
+  ImpliedTold,
   DiagonalTold,
   Stepped,
   Quiet,
@@ -396,6 +397,27 @@ fn extend(rows: &[u64], found: &mut [u64], z: Sizes, end: usize, p: Form, i: usi
 
 // ---- The test
 
+// Can no sum of the diagonal of set d be wrong in word i? Below the pivots an error is what its own diagonal leaves for it, and two of
+// them take both diagonals: in words of the data past the first they are 0 then.
+fn is_implied(z: Sizes, p: Form, d: usize, i: usize) -> bool
+    requires { ⌜ i ≤ 34 ⌝ }
+    ensures { λ r. ⌜ ImpliedTold z p d i r ⌝ }
+{
+    if p.below == 0 {
+        return false;
+    }
+    if i == 0 {
+        return false;
+    }
+    if z.positions < 64 * i + 64 {
+        return false;
+    }
+    if 2 <= p.below {
+        return true;
+    }
+    p.s == d
+}
+
 // Is the diagonal of set d 0 in word i?
 fn diagonal_zero(
     rows: &[u64],
@@ -409,8 +431,12 @@ fn diagonal_zero(
     requires { ⌜ Given z end p (now rows) (now found) ⌝ }
     requires { ⌜ d < 2 ⌝ }
     requires { ⌜ 64 * i < track-length (shape z) ⌝ }
+    requires { ⌜ ComputedIn z end p (now rows) (now found) (64 * (i + 1)) ⌝ }
     ensures { λ r. ⌜ DiagonalTold z end p (now (rows .entry)) (now (found .entry)) (set-of d) i r ⌝ }
 {
+    if is_implied(z, p, d, i) {
+        return true;
+    }
     let l = z.positions + (z.t1 + z.t2 + 1);
     words::first_cells(
         residue_at(rows, found, z, end, p, d, 64 * i + 64),

@@ -12,7 +12,7 @@ extend-requires : tie.Need-extend-requires
 extend-requires c κs = search needs
 
 diagonal-zero-requires : tie.Need-diagonal-zero-requires
-diagonal-zero-requires c κs = (kept-given _ _ _ _ _ _ (c .before .before .before .before .before .before .before .pre .0) (c .before .before .before .extend .ensures .later .rows), (omega arith, c .before .before .before .before .before .before .before .pre .1 .0))
+diagonal-zero-requires c κs = (kept-given _ _ _ _ _ _ (c .before .before .before .before .before .before .before .pre .0) (c .before .before .before .extend .ensures .later .rows), (omega arith, (c .before .before .before .before .before .before .before .pre .1 .0, c .before .before .before .extend .ensures .computed)))
 
 same-length : tie.Need-same-length
 same-length c = search needs
@@ -21,7 +21,7 @@ returns : tie.Need-returns
 returns c = step-diagonal _ _ _ _ _ _ _ _ _ (not-true _ (c .if1 .taken)) (c .before .before .before .before .before .extend .ensures) (c .before .diagonal-zero .ensures)
 
 diagonal-zero-requires-2 : tie.Need-diagonal-zero-requires-2
-diagonal-zero-requires-2 c κs = (kept-given _ _ _ _ _ _ (c .before .before .before .before .before .before .before .before .before .before .pre .0) (c .before .before .before .before .before .before .extend .ensures .later .rows), (omega arith, c .before .before .before .before .before .before .before .before .before .before .pre .1 .0))
+diagonal-zero-requires-2 c κs = (kept-given _ _ _ _ _ _ (c .before .before .before .before .before .before .before .before .before .before .pre .0) (c .before .before .before .before .before .before .extend .ensures .later .rows), (omega arith, (c .before .before .before .before .before .before .before .before .before .before .pre .1 .0, c .before .before .before .before .before .before .extend .ensures .computed)))
 
 same-length-2 : tie.Need-same-length-2
 same-length-2 c = search needs
