@@ -23,7 +23,12 @@ returns-3 : tie.Need-returns-3
 returns-3 c = not-implied _ _ _ _
 
 returns-4 : tie.Need-returns-4
-returns-4 c = search needs
+returns-4 c = record {
+  below = λ e. omega (arith, c .before .before .before .before .before .if1 .left);
+  two = λ e n. omega (arith, c .if4 .taken);
+  past = λ e. omega (arith, c .before .before .before .before .if2 .left);
+  in-data = λ e. omega (arith, c .before .before .if3 .left);
+}
 
 returns-5 : tie.Need-returns-5
 returns-5 c = record {
