@@ -1,6 +1,6 @@
 /*
- * Repair and tracing by the closed forms in plain C, with the functions, loops and order of the library. Part of plain.c: with
- * CLOSED_FORMS these stand in place of those that mend position by position.
+ * Repair and tracing by the closed forms in plain C, with the functions, loops and order of the library, but for closed tails alone
+ * and with all diagonals tested. Part of plain.c: with CLOSED_FORMS these stand in place of those that mend position by position.
  */
 
 /* Rows of words: the first word of a row is 0, and one more than the tracks need follows the last. */
