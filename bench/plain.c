@@ -564,12 +564,13 @@ static void carry(uint8_t *restrict a, uint8_t *restrict b, const uint8_t *restr
         r = pass(a + m, b + m, r, none, 0);
 }
 
-/* Writes the check tracks of a set. Track 0 is at hand, and the vertical track is the sum of it and of the data tracks. */
+/* Writes the check tracks of a set. Track 0 is at hand, and the vertical track is the sum of it and of the data tracks, whose tails
+   are 0. */
 static void write_checks(uint8_t *restrict out, uint8_t *restrict first, size_t l, int s)
 {
     memcpy(out + track_number(s, 0) * l, first, l);
     for (int t = 1; t <= DATA; t++)
-        add_track(first, out + track_number(s, t) * l, l, 0);
+        add_track(first, out + track_number(s, t) * l, l - LAG, 0);
     memcpy(out + track_number(s, DATA + 1) * l, first, l);
 }
 

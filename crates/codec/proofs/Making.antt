@@ -1,5 +1,5 @@
 -- The record that the encoder makes is the good record of the payload.
-use mathlib.Core.Path.{_≡_, sym, _∙_}
+use mathlib.Core.Path.{_≡_, refl, sym, _∙_}
 use mathlib.Core.Logic.{_≢_, by-cases}
 use mathlib.Core.Bool.{true}
 use mathlib.Core.List.{List}
@@ -15,6 +15,7 @@ use Rattle.code.proofs.Sums.{sum-same}
 use Rattle.code.proofs.Cell.{vertical-within}
 use Rattle.code.proofs.Closings.{is-closed, closed-tracks}
 use Rattle.syndrome.specs.Syndrome.{Image}
+use Rattle.syndrome.specs.Steps.{TailZero}
 use Rattle.registers.specs.Register.{of-set}
 use Rattle.registers.specs.Steps.{Sevens, DataOf, ChecksOf, Carried}
 use Rattle.codec.specs.Steps.{Filled, Filling, ChecksPut, GoodRecord}
@@ -35,6 +36,11 @@ module _ (sh : Shape) (s d : TrackSet) (c : ℕ) (h : c < data-tracks sh s) wher
   not-last : track-number sh s (suc c) ≢ track-number sh d (suc (data-tracks sh d))
   not-last e = last-unnumbered sh d (column sh s c) (column-lt sh s c h) (sym e ∙ sym (column-number sh s c h))
 
+-- The data tracks stay while the check tracks of a set are written.
+data-stay : (sh : Shape) (d : TrackSet) (first before after : List ℕ) → ChecksPut sh d first before after →
+    (s : TrackSet) (c m : ℕ) → c < data-tracks sh s → m < track-length sh → cells sh after s (suc c) m ≡ cells sh before s (suc c) m
+data-stay sh d first before after p s c m h = p .others _ m (not-first sh s d c h) (not-last sh s d c h)
+
 -- The check tracks of A and then those of B are written.
 module _ (sh : Shape) (a b out mid after : List ℕ) (p : ChecksPut sh A a out mid) (q : ChecksPut sh B b mid after) where
   abbrev y : Cells
@@ -42,7 +48,7 @@ module _ (sh : Shape) (a b out mid after : List ℕ) (p : ChecksPut sh A a out m
 
   -- The data tracks stay.
   data-stays : (s : TrackSet) (c m : ℕ) → c < data-tracks sh s → m < track-length sh → y s (suc c) m ≡ cells sh out s (suc c) m
-  data-stays s c m h k = q .others _ m (not-first sh s B c h) (not-last sh s B c h) k ∙ p .others _ m (not-first sh s A c h) (not-last sh s A c h) k
+  data-stays s c m h k = data-stay sh B b mid after q s c m h k ∙ data-stay sh A a out mid p s c m h k
 
   -- The tracks of A stay while those of B are written.
   a-stays : (t m : ℕ) → t < tracks sh A → m < track-length sh → y A t m ≡ cells sh mid A t m
@@ -107,6 +113,13 @@ module _ (z : Sizes) (n : ℕ) (payload out : List ℕ) (f : Filling (shape z) n
       tail-zero : (s : TrackSet) (t m : ℕ) → 1 ≤ t → t ≤ data-tracks sh s → z .positions ≤ m → m < l → y s t m ≡ 0
       tail-zero s zero m i h o = absurd (omega arith)
       tail-zero s (suc c) m i h o = filled s c h .rest m (omega arith)
+
+  -- The data tracks are 0 in the tail, and stay so while the check tracks of a set are written.
+  pub filled-tails : z .positions ≡ 8 * n → (s : TrackSet) → TailZero sh x s
+  filled-tails positions s t i h = record { zero = λ m. data-of positions x (λ s c m h k. refl) .tail s t m i h }
+
+  pub tails-stay : z .positions ≡ 8 * n → (d : TrackSet) (first after : List ℕ) → ChecksPut sh d first out after → (s : TrackSet) → TailZero sh (cells sh after) s
+  tails-stay positions d first after p s t i h = record { zero = λ m. data-of positions (cells sh after) (data-stay sh d first out after p) .tail s t m i h }
 
   -- With check tracks the record is the payload's good record.
   module _ (sevens : Sevens sh n) (closed : z .closed ≡ true) (a b mid after : List ℕ) (c : Carried n payload a b) (p : ChecksPut sh A a out mid) (q : ChecksPut sh B b mid after) where

@@ -15,7 +15,7 @@ ghost use Rattle.track.specs.Track.{Bits};
 ghost use Rattle.checks.specs.Lost.{LostTold};
 ghost use Rattle.registers.specs.Steps.{Sevens};
 ghost use Rattle.syndrome.specs.Syndrome.{set-of, Image, Tested};
-ghost use Rattle.syndrome.specs.Steps.{cells-of};
+ghost use Rattle.syndrome.specs.Steps.{cells-of, TailZero};
 ghost use Rattle.codec.specs.Steps.{
   Sized,
   Column,
@@ -82,22 +82,24 @@ fn put_track(out: &mut [u8], g: usize, stretch: &[u8])
     track::copy_into(&mut out[start..end], stretch);
 }
 
-// Adds the data tracks of a set to a stretch.
+// Adds the data tracks of a set to a stretch. Their tails are 0 and are left out.
 fn add_data(sums: &mut [u8], image: &[u8], z: Sizes, s: usize)
     requires { ⌜ Small z ⌝ }
     requires { ⌜ s < 2 ⌝ }
     requires { ⌜ Image (shape z) (now image) ⌝ }
     requires { ⌜ length (now sums) ≡ track-length (shape z) ⌝ }
     requires { ⌜ Bits (now sums) ⌝ }
+    requires { ⌜ TailZero (shape z) (cells (shape z) (now image)) (set-of s) ⌝ }
     ensures { λ _. ⌜ DataAdded (shape z) (set-of s) (data-tracks (shape z) (set-of s)) (now (image .entry)) (now (sums .entry)) (now (sums .exit)) ⌝ }
 {
     let l = z.positions + (z.t1 + z.t2 + 1);
+    let n = z.positions;
     let count = syndrome::data_tracks(z, s);
     let mut c = 0;
     while c < count {
         let start = syndrome::track_number(z, s, c + 1) * l;
-        let end = start + l;
-        track::add_track(sums, &image[start..end], 0);
+        let end = start + n;
+        track::add_track(&mut sums[..n], &image[start..end], 0);
         c += 1;
     }
 }
@@ -109,6 +111,7 @@ fn write_checks(out: &mut [u8], first: &mut [u8], z: Sizes, s: usize)
     requires { ⌜ Image (shape z) (now out) ⌝ }
     requires { ⌜ length (now first) ≡ track-length (shape z) ⌝ }
     requires { ⌜ Bits (now first) ⌝ }
+    requires { ⌜ TailZero (shape z) (cells (shape z) (now out)) (set-of s) ⌝ }
     ensures { λ _. ⌜ ChecksPut (shape z) (set-of s) (now (first .entry)) (now (out .entry)) (now (out .exit)) ⌝ }
 {
     let count = syndrome::data_tracks(z, s);

@@ -22,6 +22,7 @@ use Rattle.errors.specs.Rows.{cell, diagonals, verticals}
 use Rattle.errors.specs.Steps.{ComputedIn, TestedIn, PivotsIn, Given, Quiet, Fresh}
 use Rattle.errors.proofs.Numbers.{data-seven}
 use Rattle.errors.proofs.Tails.{at-zero-none}
+use Rattle.errors.proofs.Pivoting.{residue-left}
 
 module _ (z : Sizes) (end : ℕ) (p : Form) (rows found : List ℕ) (given : Given z end p rows found) (start : ℕ)
     (quiet : Quiet z rows start) (fresh : Fresh found start) where
@@ -160,27 +161,12 @@ module _ (z : Sizes) (end : ℕ) (p : Form) (rows found : List ℕ) (given : Giv
   -- ## Pivots alone: nothing is wrong up to a word past the start
 
   module _ (none : p .below ≡ 0) (pos : 0 < start) (after : List ℕ) (zero : (c : TrackSet) (m : ℕ) → m < 64 * (start + 1) → cell after (2 + row-of c) m ≡ 0) where
-    pub bare-computed : ComputedIn z end p rows after (64 * (start + 1))
-    bare-computed = record {
-      pair = λ h. absurd (omega arith);
-      upper = λ h. absurd (omega arith);
-      upper-end = λ h. absurd (omega arith);
-      lower = λ h. absurd (omega arith);
-      lower-end = λ h. absurd (omega arith);
-    }
-
     bare-sum : (c : TrackSet) (m : ℕ) → m < 64 * (start + 1) → m < track-length (shape z) → pivot-sum (shape z) end p D W (cell after 0) (cell after 1) c m ≡ 0
     unfolding pivot-sum
     bare-sum c m l b = omega (arith, vertical-zero pos c m l b, low-zero (p .below) (only-in s c (cell after 1 m)) (only-in q c (cell after 0 m)) (λ h. absurd (omega arith)) (λ h. absurd (omega arith)))
 
     bare-residue : (d : TrackSet) (m : ℕ) → m < 64 * (start + 1) → m < track-length (shape z) → residue (shape z) end p D W (cell after 0) (cell after 1) d m ≡ 0
-    unfolding residue
-    bare-residue d m l b = omega (
-      arith,
-      left-zero pos d m l b,
-      low-zero (p .below) (met (shape z) end (cell after 1) d s (p .v) (pivot p s) m) (met (shape z) end (cell after 0) d q (p .u) (pivot p q) m)
-          (λ h. absurd (omega arith)) (λ h. absurd (omega arith)),
-    )
+    bare-residue d m l b = residue-left (shape z) end p D W (cell after 0) (cell after 1) d none m ∙ left-zero pos d m l b
 
     pub bare-tested : TestedIn z end p rows after (64 * (start + 1))
     bare-tested = record {

@@ -98,6 +98,16 @@ module _ (z : Sizes) (end : ℕ) (p : Form) (rows found : List ℕ) where
 
   -- ## Words put
 
+  -- There are no errors below the pivots.
+  pub computed-none : p .below < 1 → (n : ℕ) → ComputedIn z end p rows found n
+  computed-none l n = record {
+    pair = λ h. absurd (omega arith);
+    upper = λ h. absurd (omega arith);
+    upper-end = λ h. absurd (omega arith);
+    lower = λ h. absurd (omega arith);
+    lower-end = λ h. absurd (omega arith);
+  }
+
   module _ (i : ℕ) where
     abbrev u-gap : ℕ
     u-gap = gap (shape z) q (p .u) (pivot p q)
@@ -158,18 +168,9 @@ module _ (z : Sizes) (end : ℕ) (p : Form) (rows found : List ℕ) where
         (m : ℕ) → 64 * i ≤ m → m < 64 * (i + 1) → extent (shape z) end (p .u) ≤ m → cell g 0 m ≡ 0
     tail-empty f g upper lower = rw (lower .upper-stays) (upper .upper-end)
 
-    -- There are no errors below the pivots.
+    -- There are none to put.
     pub extended-none : Rows 5 found → p .below < 1 → Extended z end p rows found i found
-    extended-none five l = record {
-      later = later-same i found five;
-      computed = record {
-        pair = λ h. absurd (omega arith);
-        upper = λ h. absurd (omega arith);
-        upper-end = λ h. absurd (omega arith);
-        lower = λ h. absurd (omega arith);
-        lower-end = λ h. absurd (omega arith);
-      };
-    }
+    extended-none five l = record { later = later-same i found five; computed = computed-none l _ }
 
     module _ (given : Given z end p rows found) (computed : ComputedIn z end p rows found (64 * i)) where
       -- v's error in word i, with the words before.

@@ -26,18 +26,23 @@ use Rattle.forms.proofs.Shifts.{cut-in, cut-out}
 use Rattle.forms.proofs.Lows.{low-one, low-two, low-same, low-zero}
 use Rattle.forms.proofs.Implied.{implied}
 use Rattle.errors.specs.Rows.{cell, diagonals, verticals, Shown, Put}
-use Rattle.errors.specs.Steps.{ComputedIn, Given, ImpliedTold, DiagonalTold, PivotWord, PivotPut}
+use Rattle.errors.specs.Steps.{ComputedIn, Given, ImpliedTold, ZeroTold, DiagonalTold, LeftTold, PivotWord, PivotPut}
 use Rattle.errors.proofs.Cells.{cell-index, same-bits}
 use Rattle.errors.proofs.Words.{in-word, put-later}
 use Rattle.errors.proofs.Shown.{shown-xor, shown-same, shown-at}
 
 -- ## The residue of the diagonal of set d, where D has the diagonals, W the verticals, U and E the errors of u and v
 
+-- With no track below the pivots it is what is left.
+pub residue-left : (sh : Shape) (end : ℕ) (p : Form) (D W : TrackSet → Stream) (U E : Stream) (d : TrackSet) → p .below ≡ 0 → (m : ℕ) →
+    residue sh end p D W U E d m ≡ left sh end D W p d m
+unfolding residue
+residue-left sh end p D W U E d e m = rw e (omega arith)
+
 module _ (sh : Shape) (end : ℕ) (p : Form) (D W : TrackSet → Stream) (U E : Stream) (d : TrackSet) (at w : ℕ)
     (whole : Shown (track-length sh) (left sh end D W p d) at w) where
   pub residue-none : p .below ≡ 0 → Shown (track-length sh) (residue sh end p D W U E d) at w
-  unfolding residue
-  residue-none e = shown-same _ _ _ at w (λ m h. rw e (omega arith)) whole
+  residue-none e = shown-same _ _ _ at w (λ m h. ap (λ v. v % 2) (sym (residue-left sh end p D W U E d e m))) whole
 
   module _ (j x : ℕ) (is : j ≡ pivot p (set-of (p .s))) (met-lower : Shown (track-length sh) (met sh end E d (set-of (p .s)) (p .v) j) at x) where
     lower : Shown (track-length sh) (λ m. left sh end D W p d m + met sh end E d (set-of (p .s)) (p .v) (pivot p (set-of (p .s))) m) at (bitXor w x)
@@ -77,13 +82,22 @@ module _ (n : ℕ) (f : Stream) (i v w : ℕ) (p : Shown n f (64 * i + 64) v) (q
       ))
       (λ h. q .none k (omega arith) ∙ sym (bit-zero k)))
 
-pub diagonal-told : (z : Sizes) (end : ℕ) (p : Form) (rows found : List ℕ) (d : TrackSet) (i v w n : ℕ) → w < 2 ^ 64 →
-    Shown (track-length (shape z)) (residue (shape z) end p (diagonals rows) (verticals rows) (cell found 0) (cell found 1) d) (64 * i + 64) v →
-    n ≡ track-length (shape z) - 64 * i → First v n w → DiagonalTold z end p rows found d i (eqb w 0)
-diagonal-told z end p rows found d i v w n s f e q = let q′ = subst (λ k. First v k w) e q in record {
-  right = λ t. zero-right _ _ i v w f q′ (eqb-true w 0 t);
-  wrong = λ t h. eqb-false w 0 t (zero-wrong _ _ i v w f q′ s h);
+pub zero-told : (n : ℕ) (f : Stream) (i v w k : ℕ) → w < 2 ^ 64 → Shown n f (64 * i + 64) v → k ≡ n - 64 * i → First v k w → ZeroTold n f i (eqb w 0)
+zero-told n f i v w k s h e q = let q′ = subst (λ k. First v k w) e q in record {
+  right = λ t. zero-right n f i v w h q′ (eqb-true w 0 t);
+  wrong = λ t z. eqb-false w 0 t (zero-wrong n f i v w h q′ s z);
 }
+
+-- Where no track is below the pivots, the diagonal is what is left of it.
+pub left-diagonal : (z : Sizes) (end : ℕ) (p : Form) (rows found : List ℕ) (d : TrackSet) (i : ℕ) (r : Bool) → p .below ≡ 0 →
+    LeftTold z end p rows d i r → DiagonalTold z end p rows found d i r
+left-diagonal z end p rows found d i r e t = record {
+  right = λ h m a b l. ap (λ v. v % 2) (same m) ∙ t .right h m a b l;
+  wrong = λ h w. t .wrong h (λ m a b l. ap (λ v. v % 2) (sym (same m)) ∙ w m a b l);
+}
+  where
+    same : (m : ℕ) → residue (shape z) end p (diagonals rows) (verticals rows) (cell found 0) (cell found 1) d m ≡ left (shape z) end (diagonals rows) (verticals rows) p d m
+    same = residue-left (shape z) end p (diagonals rows) (verticals rows) (cell found 0) (cell found 1) d e
 
 -- Where no sum can be wrong.
 pub diagonal-implied : (z : Sizes) (end : ℕ) (p : Form) (rows found : List ℕ) → Given z end p rows found → (d i : ℕ) (r : Bool) → r ≡ true → ImpliedTold z p d i r →

@@ -12,7 +12,7 @@ use Rattle.plans.specs.declared.Form.{Form}
 use Rattle.plans.specs.Plans.{pivot, room, Sized}
 use Rattle.words.specs.Words.{bit}
 use Rattle.forms.specs.Streams.{Stream, cut}
-use Rattle.forms.specs.Forms.{gap}
+use Rattle.forms.specs.Forms.{left, gap}
 use Rattle.forms.specs.Found.{extent, at-zero, stride, eliminated-row, lower-row, Computed, residue, pivot-sum, Tested}
 use Rattle.errors.specs.Rows.{cell, Rows, diagonals, verticals, Next}
 
@@ -116,12 +116,19 @@ pub record ImpliedTold (z : Sizes) (p : Form) (d i : ℕ) (r : Bool) : Type 0 wh
   pub past : r ≡ true → 1 ≤ i
   pub in-data : r ≡ true → 64 * (i + 1) ≤ z .positions
 
+-- r says whether f is 0 in word i, before position n.
+pub record ZeroTold (n : ℕ) (f : Stream) (i : ℕ) (r : Bool) : Type 0 where
+  pub right : r ≡ true → (m : ℕ) → 64 * i ≤ m → m < 64 * (i + 1) → m < n → f m % 2 ≡ 0
+  pub wrong : r ≡ false → ((m : ℕ) → 64 * i ≤ m → m < 64 * (i + 1) → m < n → f m % 2 ≡ 0) → ⊥
+
 -- r says whether the diagonal of set d is 0 in word i.
-pub record DiagonalTold (z : Sizes) (end : ℕ) (p : Form) (rows found : List ℕ) (d : TrackSet) (i : ℕ) (r : Bool) : Type 0 where
-  pub right : r ≡ true → (m : ℕ) → 64 * i ≤ m → m < 64 * (i + 1) → m < track-length (shape z) →
-      residue (shape z) end p (diagonals rows) (verticals rows) (cell found 0) (cell found 1) d m % 2 ≡ 0
-  pub wrong : r ≡ false → ((m : ℕ) → 64 * i ≤ m → m < 64 * (i + 1) → m < track-length (shape z) →
-      residue (shape z) end p (diagonals rows) (verticals rows) (cell found 0) (cell found 1) d m % 2 ≡ 0) → ⊥
+abbrev pub DiagonalTold : Sizes → ℕ → Form → List ℕ → List ℕ → TrackSet → ℕ → Bool → Type 0
+DiagonalTold z end p rows found d i r =
+    ZeroTold (track-length (shape z)) (residue (shape z) end p (diagonals rows) (verticals rows) (cell found 0) (cell found 1) d) i r
+
+-- r says whether what is left of it is, with no errors below the pivots taken off.
+abbrev pub LeftTold : Sizes → ℕ → Form → List ℕ → TrackSet → ℕ → Bool → Type 0
+LeftTold z end p rows d i r = ZeroTold (track-length (shape z)) (left (shape z) end (diagonals rows) (verticals rows) p d) i r
 
 -- Word i of all errors is put, and r says whether its tests are passed.
 pub record Stepped (z : Sizes) (end : ℕ) (p : Form) (rows before : List ℕ) (i : ℕ) (after : List ℕ) (r : Bool) : Type 0 where
@@ -141,13 +148,13 @@ pub record Fresh (found : List ℕ) (start : ℕ) : Type 0 where
   pub rows : Rows 5 found
   pub zero : (r m : ℕ) → r < 5 → m < 64 * start → cell found r m ≡ 0
 
--- The word to begin with: the start or, for pivots alone, the one after it, and their errors before it are 0.
-pub record Begun (p : Form) (start : ℕ) (before after : List ℕ) (r : ℕ) : Type 0 where
+-- The word to begin with: the start or the one after it, before which the pivots' errors are 0.
+pub record Begun (start : ℕ) (before after : List ℕ) (r : ℕ) : Type 0 where
   pub order : start ≤ r
   pub within : r ≤ 33
   pub fresh : Fresh after start
   pub same : r ≡ start → after ≡ before
-  pub alone : r ≢ start → (p .below ≡ 0) × (0 < start) × (r ≡ start + 1)
+  pub next : r ≢ start → (0 < start) × (r ≡ start + 1)
   pub zero : r ≢ start → (c : TrackSet) (m : ℕ) → m < 64 * r → cell after (2 + row-of c) m ≡ 0
 
 -- What `find` gives: all errors, and all tests are passed; or the errors so far, and a test is failed.

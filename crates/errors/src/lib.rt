@@ -38,6 +38,7 @@ ghost use Rattle.errors.specs.Steps.{
   PivotPut,
   ImpliedTold,
   DiagonalTold,
+  LeftTold,
   Stepped,
   Quiet,
   Fresh,
@@ -445,6 +446,19 @@ fn diagonal_zero(
         == 0
 }
 
+// Is what is left of the diagonal of set d 0 in word i?
+fn left_zero(rows: &[u64], z: Sizes, end: usize, p: Form, d: usize, i: usize) -> bool
+    requires { ⌜ Small z ⌝ }
+    requires { ⌜ d < 2 ⌝ }
+    requires { ⌜ Rows 4 (now rows) ⌝ }
+    requires { ⌜ 64 * i < track-length (shape z) ⌝ }
+    requires { ⌜ end ≤ 2112 ⌝ }
+    ensures { λ r. ⌜ LeftTold z end p (now (rows .entry)) (set-of d) i r ⌝ }
+{
+    let l = z.positions + (z.t1 + z.t2 + 1);
+    words::first_cells(left_at(rows, z, end, p, d, 64 * i + 64), rest(l, i)) == 0
+}
+
 // Word i of the vertical of set c with the errors below its pivot taken off.
 fn pivot_word(rows: &[u64], found: &[u64], z: Sizes, end: usize, p: Form, c: usize, i: usize) -> u64
     requires { ⌜ Given z end p (now rows) (now found) ⌝ }
@@ -512,18 +526,39 @@ fn step(rows: &[u64], found: &mut [u64], z: Sizes, end: usize, p: Form, i: usize
     put_pivot(rows, found, z, end, p, 1, b.room, i)
 }
 
+// Puts word i of the pivots' errors, where no track is below them. Are its tests passed?
+fn step_pivots(rows: &[u64], found: &mut [u64], z: Sizes, end: usize, p: Form, i: usize) -> bool
+    requires { ⌜ Given z end p (now rows) (now found) ⌝ }
+    requires { ⌜ p .below ≡ 0 ⌝ }
+    requires { ⌜ 64 * i < track-length (shape z) ⌝ }
+    requires { ⌜ ComputedIn z end p (now rows) (now found) (64 * i) ⌝ }
+    requires { ⌜ TestedIn z end p (now rows) (now found) (64 * i) ⌝ }
+    requires { ⌜ PivotsIn z end p (now rows) (now found) (64 * i) ⌝ }
+    ensures { λ r. ⌜ Stepped z end p (now (rows .entry)) (now (found .entry)) i (now (found .exit)) r ⌝ }
+{
+    if !left_zero(rows, z, end, p, 0, i) {
+        return false;
+    }
+    if !left_zero(rows, z, end, p, 1, i) {
+        return false;
+    }
+    let a = p.a;
+    let b = p.b;
+    if !put_pivot(rows, found, z, end, p, 0, a.room, i) {
+        return false;
+    }
+    put_pivot(rows, found, z, end, p, 1, b.room, i)
+}
+
 // ---- All words
 
-// The word to begin with. Tracks below the pivots may be wrong from the start on; the pivots alone are not before the first sum that is
-// not 0, a word later.
-fn begin(found: &mut [u64], p: Form, start: usize) -> usize
+// The word to begin with, where no track is below the pivots. Tracks below them may be wrong from the start on; the pivots alone are not
+// before the first sum that is not 0, a word later.
+fn begin(found: &mut [u64], start: usize) -> usize
     requires { ⌜ start ≤ 33 ⌝ }
     requires { ⌜ Fresh (now found) start ⌝ }
-    ensures { λ r. ⌜ Begun p start (now (found .entry)) (now (found .exit)) r ⌝ }
+    ensures { λ r. ⌜ Begun start (now (found .entry)) (now (found .exit)) r ⌝ }
 {
-    if 1 <= p.below {
-        return start;
-    }
     if start == 0 {
         return start;
     }
@@ -533,6 +568,27 @@ fn begin(found: &mut [u64], p: Form, start: usize) -> usize
     put_word(found, 2, start, 0);
     put_word(found, 3, start, 0);
     start + 1
+}
+
+// Finds the errors of the pivots alone: `find`, where no track is below them.
+fn find_pivots(rows: &[u64], found: &mut [u64], z: Sizes, end: usize, p: Form, start: usize) -> bool
+    requires { ⌜ Given z end p (now rows) (now found) ⌝ }
+    requires { ⌜ p .below ≡ 0 ⌝ }
+    requires { ⌜ start ≤ 33 ⌝ }
+    requires { ⌜ Quiet z (now rows) start ⌝ }
+    requires { ⌜ Fresh (now found) start ⌝ }
+    ensures fresh { λ _. ⌜ Fresh (now (found .exit)) start ⌝ }
+    ensures found { λ r. ⌜ Found z end p (now (rows .entry)) (now (found .exit)) r ⌝ }
+{
+    let l = z.positions + (z.t1 + z.t2 + 1);
+    let mut i = begin(found, start);
+    while 64 * i < l {
+        if !step_pivots(rows, found, z, end, p, i) {
+            return false;
+        }
+        i += 1;
+    }
+    true
 }
 
 // Finds the errors of a form's tracks from word `start` on, before which there are none. True: they make a good record. False: no
@@ -545,8 +601,11 @@ pub fn find(rows: &[u64], found: &mut [u64], z: Sizes, end: usize, p: Form, star
     ensures fresh { λ _. ⌜ Fresh (now (found .exit)) start ⌝ }
     ensures found { λ r. ⌜ Found z end p (now (rows .entry)) (now (found .exit)) r ⌝ }
 {
+    if p.below == 0 {
+        return find_pivots(rows, found, z, end, p, start);
+    }
     let l = z.positions + (z.t1 + z.t2 + 1);
-    let mut i = begin(found, p, start);
+    let mut i = start;
     while 64 * i < l {
         if !step(rows, found, z, end, p, i) {
             return false;

@@ -14,7 +14,7 @@ use Rattle.track.proofs.Cells.{every}
 use Rattle.registers.specs.declared.Registers.{Registers}
 use Rattle.registers.specs.declared.Column.{Column}
 use Rattle.registers.specs.Register.{of-set, Hold, Enter, BitsTo}
-use Rattle.registers.specs.Steps.{Sevens, DataOf, ChecksOf, BlockBytes, Passed, Passing, TwoPassed, Carried}
+use Rattle.registers.specs.Steps.{Sevens, DataOf, ChecksOf, BlockBytes, Passed, Passing, Zeros, TwoPassed, Carried, TailPassed}
 use Rattle.registers.proofs.Passing.{but-check, at-start}
 use Rattle.registers.proofs.Entering.{cells-bits, enter-data, enter-tail}
 
@@ -66,7 +66,14 @@ module _ (n : ℕ) (payload : List ℕ) (m k : ℕ) (r : Registers) (bytes : Col
     even = next-even;
   })
 
--- Two positions of a block.
+-- A position of the tail.
+passing-tail : (n : ℕ) (payload : List ℕ) (m k i : ℕ) (r : Registers) (bytes : Column) (a b after-a after-b : List ℕ) (next : Registers) → Zeros bytes →
+    8 * n ≤ m → m < 8 * n + 15 → suc m ≡ i → m < length a → m < length b →
+    Passing n payload m a b r → Passed m k r bytes a b after-a after-b next → Passing n payload i after-a after-b next
+passing-tail n payload m k i r bytes a b after-a after-b next zeros h l after room-a room-b s q = passing-more n payload m k r bytes a b after-a after-b next s q room-a room-b
+    (λ sh x sevens d. enter-tail sh n payload x sevens d m k bytes (q .cells) h (omega (arith, sevens .t1-seven, sevens .t2-seven, sevens .blocks)) (zeros .zero) (q .taken)) i after
+
+-- Two positions of a block, or of the tail.
 pub two-passed : (m k : ℕ) (r : Registers) (bytes : Column) (a b a′ b′ after-a after-b : List ℕ) (r′ next : Registers) → m + 2 ≤ length a → m + 2 ≤ length b → k < 7 →
     length a′ ≡ length a → length b′ ≡ length b →
     Passed m (k + 1) r bytes a b a′ b′ r′ → Passed (m + 1) k r′ bytes a′ b′ after-a after-b next → TwoPassed m k r bytes a b after-a after-b next
@@ -76,6 +83,9 @@ two-passed m k r bytes a b a′ b′ after-a after-b r′ next room-a room-b low
       (λ sh x sevens d. enter-data sh n payload x sevens d block (m - 8 * block) (k + 1) m bytes (p .cells) has (omega arith) (omega arith) (omega arith) bs (p .taken)) (m + 1) (omega arith) in
       passing-more n payload (m + 1) k r′ bytes a′ b′ after-a after-b next one q (omega arith) (omega arith)
       (λ sh x sevens d. enter-data sh n payload x sevens d block (m + 1 - 8 * block) k (m + 1) bytes (q .cells) has (omega arith) (omega arith) (omega arith) bs (q .taken)) (m + 2) (omega arith);
+  tail = λ n payload zeros h l s.
+      let one = passing-tail n payload m (k + 1) (m + 1) r bytes a b a′ b′ r′ zeros h (omega arith) (omega arith) (omega arith) (omega arith) s p in
+      passing-tail n payload (m + 1) k (m + 2) r′ bytes a′ b′ after-a after-b next zeros (omega arith) (omega arith) (omega arith) (omega arith) (omega arith) one q;
 }
 
 -- The eight positions of a block.
@@ -97,11 +107,8 @@ none : (s : TrackSet) (i : ℕ) → i < 15 → getD (of-set s (replicate 15 0) (
 none A i h = getD-replicate 15 i 0 0 h
 none B i h = getD-replicate 15 i 0 0 h
 
--- A position of the tail.
-pub passing-tail : (n : ℕ) (payload : List ℕ) (m i : ℕ) (r : Registers) (a b after-a after-b : List ℕ) (next : Registers) → 8 * n ≤ m → suc m ≡ i → m < length a → length a ≡ 8 * n + 15 → m < length b →
-    Passing n payload m a b r → Passed m 0 r (record { a = replicate 15 0; b = replicate 15 0 }) a b after-a after-b next → Passing n payload i after-a after-b next
-passing-tail n payload m i r a b after-a after-b next h after room-a size room-b s q = passing-more n payload m 0 r _ a b after-a after-b next s q room-a room-b
-    (λ sh x sevens d. enter-tail sh n payload x sevens d m 0 _ (q .cells) h (omega (arith, sevens .t1-seven, sevens .t2-seven, sevens .blocks)) none (q .taken)) i after
+zeros : Zeros (record { a = replicate 15 0; b = replicate 15 0 })
+zeros = record { zero = none }
 
 -- No position has passed.
 pub passing-none : (n : ℕ) (payload a b : List ℕ) → Passing n payload 0 a b (record { a = replicate 15 0; b = replicate 15 0 })
@@ -113,7 +120,7 @@ passing-none n payload a b = record {
 }
 
 -- All positions have passed.
-pub carried : (n : ℕ) (payload a b : List ℕ) (r : Registers) → length a ≡ 8 * n + 15 → length b ≡ 8 * n + 15 → Passing n payload (8 * n + 15) a b r → Carried n payload a b
+carried : (n : ℕ) (payload a b : List ℕ) (r : Registers) → length a ≡ 8 * n + 15 → length b ≡ 8 * n + 15 → Passing n payload (8 * n + 15) a b r → Carried n payload a b
 carried n payload a b r size-a size-b p = record {
   bits = bits;
   even = λ sh x sevens d c s m h.
@@ -124,3 +131,32 @@ carried n payload a b r size-a size-b p = record {
     bits : (s : TrackSet) → Bits (of-set s a b)
     bits A = record { bit = every (λ v. v < 2) a (omega arith) (λ i h. p .tracks .bit A i (omega arith)) }
     bits B = record { bit = every (λ v. v < 2) b (omega arith) (λ i h. p .tracks .bit B i (omega arith)) }
+
+-- ## The tail
+
+-- The positions before m have passed, if those before the tail had. The stretches keep their length.
+pub record TailTo (n : ℕ) (a₀ b₀ : List ℕ) (first : Registers) (m : ℕ) (a b : List ℕ) (r : Registers) : Type 0 where
+  pub small : n ≤ 256
+  pub from : 8 * n ≤ m
+  pub size-a : length a ≡ 8 * n + 15
+  pub size-b : length b ≡ 8 * n + 15
+  pub passing : (payload : List ℕ) → Passing n payload (8 * n) a₀ b₀ first → Passing n payload m a b r
+
+-- Two more, and the last.
+module _ (n : ℕ) (a₀ b₀ : List ℕ) (first : Registers) (m : ℕ) (a b : List ℕ) (r : Registers) (t : TailTo n a₀ b₀ first m a b r)
+    (after-a after-b : List ℕ) (next : Registers) (size-a : length after-a ≡ length a) (size-b : length after-b ≡ length b) where
+  pub two-more : (i : ℕ) → m + 2 ≡ i → i ≤ 8 * n + 15 → TwoPassed m 0 r (record { a = replicate 15 0; b = replicate 15 0 }) a b after-a after-b next →
+      TailTo n a₀ b₀ first i after-a after-b next
+  two-more i e h q = rw (sym e) (record {
+    small = t .small;
+    from = omega (arith, t .from);
+    size-a = size-a ∙ t .size-a;
+    size-b = size-b ∙ t .size-b;
+    passing = λ payload s. q .tail n payload zeros (t .from) (omega arith) (t .passing payload s);
+  })
+
+  pub last-one : m + 1 ≡ 8 * n + 15 → Passed m 0 r (record { a = replicate 15 0; b = replicate 15 0 }) a b after-a after-b next → TailPassed n first a₀ b₀ after-a after-b
+  last-one e q = record {
+    carried = λ payload s. carried n payload after-a after-b next (size-a ∙ t .size-a) (size-b ∙ t .size-b)
+        (passing-tail n payload m 0 (8 * n + 15) r _ a b after-a after-b next zeros (t .from) (omega arith) (omega arith) (omega (arith, t .size-a)) (omega (arith, t .size-b)) (t .passing payload s) q);
+  }

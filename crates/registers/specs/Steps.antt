@@ -77,9 +77,15 @@ pub record Passing (n : ℕ) (payload : List ℕ) (m : ℕ) (a b : List ℕ) (r 
   pub hold : (sh : Shape) (x : Cells) → Sevens sh n → DataOf sh n payload x → ChecksOf m a b x → Hold sh x m r
   pub even : (sh : Shape) (x : Cells) → Sevens sh n → DataOf sh n payload x → ChecksOf m a b x → (s : TrackSet) (q : ℕ) → q < m → diagonal sh x s q % 2 ≡ 0
 
--- Two positions of a block pass, with bits k + 1 and k of its bytes.
+-- The bytes are 0, as they are for the tail.
+pub record Zeros (bytes : Column) : Type 0 where
+  pub zero : (s : TrackSet) (i : ℕ) → i < 15 → getD (of-set s (bytes .a) (bytes .b)) i 0 ≡ 0
+
+-- Two positions pass, with bits k + 1 and k of the bytes: those of a block, or 0 for the tail.
 pub record TwoPassed (m k : ℕ) (r : Registers) (bytes : Column) (a b after-a after-b : List ℕ) (next : Registers) : Type 0 where
   pub passing : (n : ℕ) (payload : List ℕ) (block : ℕ) → block < n → m + k ≡ 8 * block + 6 → BlockBytes payload (14 * block) bytes →
+      Passing n payload m a b r → Passing n payload (m + 2) after-a after-b next
+  pub tail : (n : ℕ) (payload : List ℕ) → Zeros bytes → 8 * n ≤ m → m + 2 ≤ 8 * n + 15 →
       Passing n payload m a b r → Passing n payload (m + 2) after-a after-b next
 
 -- What `carry` gives: two stretches of bits that are the tracks 0 of the payload's record, as they make its diagonals even.

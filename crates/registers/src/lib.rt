@@ -193,7 +193,7 @@ fn pass(a: &mut [u8], b: &mut [u8], m: usize, r: Registers, bytes: Column, k: u3
     step(r, cells_of(bytes, k))
 }
 
-// Positions m and m + 1 of a block pass, with bits k + 1 and k of its bytes.
+// Positions m and m + 1 pass, with bits k + 1 and k of the bytes: those of a block, or 0 for the tail.
 fn pass_two(a: &mut [u8], b: &mut [u8], m: usize, r: Registers, bytes: Column, k: u32) -> Registers
     requires { ⌜ m + 2 ≤ length (now a) ⌝ }
     requires { ⌜ m + 2 ≤ length (now b) ⌝ }
@@ -227,24 +227,26 @@ fn pass_block(
     pass_two(a, b, m + 6, r6, bytes, 0)
 }
 
-// The tail passes.
+// The tail passes. Its fifteen positions are written out, as those of a block are.
 fn pass_tail(a: &mut [u8], b: &mut [u8], blocks: usize, first: Registers)
     requires { ⌜ blocks ≤ 256 ⌝ }
     requires { ⌜ length (now a) ≡ 8 * blocks + 15 ⌝ }
     requires { ⌜ length (now b) ≡ 8 * blocks + 15 ⌝ }
     ensures { λ _. ⌜ TailPassed blocks first (now (a .entry)) (now (b .entry)) (now (a .exit)) (now (b .exit)) ⌝ }
 {
-    let l = a.len();
     let none = Column {
         a: [0; 15],
         b: [0; 15],
     };
-    let mut r = first;
-    let mut m = 8 * blocks;
-    while m < l {
-        r = pass(a, b, m, r, none, 0);
-        m += 1;
-    }
+    let m = 8 * blocks;
+    let r2 = pass_two(a, b, m, first, none, 0);
+    let r4 = pass_two(a, b, m + 2, r2, none, 0);
+    let r6 = pass_two(a, b, m + 4, r4, none, 0);
+    let r8 = pass_two(a, b, m + 6, r6, none, 0);
+    let r10 = pass_two(a, b, m + 8, r8, none, 0);
+    let r12 = pass_two(a, b, m + 10, r10, none, 0);
+    let r14 = pass_two(a, b, m + 12, r12, none, 0);
+    pass(a, b, m + 14, r14, none, 0);
 }
 
 // Tracks 0 of both sets for a payload: its blocks pass, and then the tail.

@@ -7,8 +7,8 @@ use code::Span;
 use code::plain_answer;
 ghost use mathlib.Core.Path.{_≡_};
 ghost use mathlib.Core.List.{List, [], _∷_};
-ghost use Prim.Native.Nat.{_*_, _<_};
-ghost use lib.ListN.{length, set};
+ghost use Prim.Native.Nat.{_*_};
+ghost use lib.ListN.{length};
 ghost use Rattle.code.specs.Record.{base, track-length};
 ghost use Rattle.code.specs.Image.{image-size, cells};
 ghost use Rattle.code.specs.Lost.{read-values};
@@ -215,14 +215,11 @@ fn no_pairs() -> [[u32; 2]; 65] {
     [[0u32; 2]; 65]
 }
 
-// The table with a span as pair i.
-fn put_span(table: [[u32; 2]; 65], i: usize, span: Span) -> [[u32; 2]; 65]
-    requires { ⌜ i < 65 ⌝ }
-    ensures { λ r. ⌜ r ≡ set table i (span .offset ∷ span .length ∷ []) ⌝ }
+// A span as a pair of numbers, offset and length.
+fn pair_of(span: Span) -> [u32; 2]
+    ensures { λ r. ⌜ r ≡ span .offset ∷ span .length ∷ [] ⌝ }
 {
-    let mut next = table;
-    next[i] = [span.offset, span.length];
-    next
+    [span.offset, span.length]
 }
 
 // The spans as numbers. This function alone reads them.
@@ -233,7 +230,7 @@ fn numbers(spans: &[Span]) -> [[u32; 2]; 65]
     let count = at_most(spans.len());
     let mut i = 0;
     while i < count {
-        table = put_span(table, i, spans[i]);
+        table[i] = pair_of(spans[i]);
         i += 1;
     }
     table

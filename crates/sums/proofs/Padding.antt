@@ -16,7 +16,7 @@ use Rattle.code.specs.declared.Sizes.{Sizes}
 use Rattle.track.specs.Track.{row, Copied}
 use Rattle.track.proofs.Cells.{every}
 use Rattle.track.proofs.Parts.{part-at, put-before, put-in, put-after}
-use Rattle.track.proofs.Rows.{row-end, part, part-length, part-row, part-bits, front}
+use Rattle.track.proofs.Rows.{row-end, front}
 use Rattle.syndrome.specs.Syndrome.{Image}
 use Rattle.sums.specs.Edge.{edge, FirstCopied, Padded}
 
@@ -95,8 +95,18 @@ module _ (z : Sizes) (image padded : List ℕ) (g : ℕ) (is-image : Image (shap
   pub cells-room : first-cell z g + 80 ≤ length padded
   cells-room = omega (arith, row-end w g (all-tracks (shape z)) track)
 
-  -- The first cells of track g are copied to a part that comes back.
-  module _ (ys : List ℕ) (c : FirstCopied (part l image g) (take (first-cell z g + 80 - first-cell z g) (drop (first-cell z g) padded)) ys) where
+  -- The image from track g on.
+  abbrev rest : List ℕ
+  rest = take (length image - g * l) (drop (g * l) image)
+
+  rest-length : length rest ≡ length image - g * l
+  rest-length = mid-len (g * l) (length image) image (omega arith)
+
+  rest-row : (m : ℕ) → m < length rest → getD rest m 0 ≡ row l image g m
+  rest-row m h = part-at image (g * l) (length image - g * l) m (omega (arith, rest-length))
+
+  -- Its first cells are copied to a part that comes back.
+  module _ (ys : List ℕ) (c : FirstCopied rest (take (first-cell z g + 80 - first-cell z g) (drop (first-cell z g) padded)) ys) where
     abbrev a : ℕ
     a = first-cell z g
 
@@ -108,8 +118,8 @@ module _ (z : Sizes) (image padded : List ℕ) (g : ℕ) (is-image : Image (shap
 
     -- The part holds bits, those of the image or those that were there.
     copy-bits : (m : ℕ) → m < 80 → getD ys m 0 < 2
-    copy-bits m h = by-cases (decLt m (length (part l image g)))
-        (λ k. rw (c .copy m h k) (part-bits l image g track-room (record { bit = is-image .bits }) .bit m))
+    copy-bits m h = by-cases (decLt m (length rest))
+        (λ k. rw (c .copy m h k ∙ rest-row m k) (is-image .bits (g * l + m)))
         (λ k. rw (c .later m (omega arith) ∙ part-at padded a (a + 80 - a) m (omega arith)) (p .bits (a + m)))
 
     -- So does the whole.
@@ -142,4 +152,5 @@ module _ (z : Sizes) (image padded : List ℕ) (g : ℕ) (is-image : Image (shap
         here q i h k m n =
             let e : q ≡ g = omega arith in
             let s : g * w + (lag (shape z) + i) ≡ a + i = omega arith in
-            rw e (ap (λ j. getD new j 0) s ∙ put-in padded ys a 80 cells-room fits i k ∙ c .copy i k (omega (arith, part-length l image g track-room)) ∙ part-row l image g track-room i m)
+            let r : i < length rest = omega (arith, rest-length, track-room) in
+            rw e (ap (λ j. getD new j 0) s ∙ put-in padded ys a 80 cells-room fits i k ∙ c .copy i k r ∙ rest-row i r)

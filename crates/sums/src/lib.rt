@@ -159,7 +159,7 @@ fn copy_first(out: &mut [u8], source: &[u8])
     }
 }
 
-// Copies the first cells of track number g behind its zeros.
+// Copies 80 cells behind the zeros of track number g: its first ones and, where it is shorter, those of the tracks behind it.
 fn pad_track(padded: &mut [u8], image: &[u8], z: Sizes, g: usize)
     requires { ⌜ Small z ⌝ }
     requires { ⌜ Image (shape z) (now image) ⌝ }
@@ -170,10 +170,9 @@ fn pad_track(padded: &mut [u8], image: &[u8], z: Sizes, g: usize)
     let lag = z.t1 + z.t2 + 1;
     let l = z.positions + lag;
     let from = g * l;
-    let to = from + l;
     let start = g * (80 + lag) + lag;
     let end = start + 80;
-    copy_first(&mut padded[start..end], &image[from..to]);
+    copy_first(&mut padded[start..end], &image[from..]);
 }
 
 // Copies the first cells of all tracks.

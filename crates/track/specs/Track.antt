@@ -57,6 +57,11 @@ pub record Zeros (xs : List ℕ) (r : Bool) : Type 0 where
   pub all : r ≡ true → (i : ℕ) → getD xs i 0 ≡ 0
   pub not-all : r ≡ false → ((i : ℕ) → i < length xs → getD xs i 0 ≡ 0) → ⊥
 
+-- r says whether the eight cells from `at` on are 0.
+pub record EightZeros (xs : List ℕ) (at : ℕ) (r : Bool) : Type 0 where
+  pub all : r ≡ true → (k : ℕ) → k < 8 → getD xs (at + k) 0 ≡ 0
+  pub not-all : r ≡ false → ((k : ℕ) → k < 8 → getD xs (at + k) 0 ≡ 0) → ⊥
+
 -- The number of places at which two stretches differ.
 unfoldable pub differing : List ℕ → List ℕ → ℕ
 differing xs ys = sum (length xs) (λ m. differ (getD xs m 0) (getD ys m 0))

@@ -1,23 +1,25 @@
 -- `add_data`: the loop's invariant is that the first c data tracks are added.
-use mathlib.Core.Path.{_≡_}
+use mathlib.Core.Path.{_≡_, sym, _∙_}
 use Prim.Native.Nat.{_*_, _≤_, _-_}
 use native.Mathlib.Omega.{arith}
 use denote.Ref.{now}
 use borrow.Author.Needs.{needs}
+use lib.ListN.{length}
+use lib.Seq.{length-take-le}
 use Rattle.code.specs.Record.{data-tracks, track-length}
 use Rattle.code.specs.Sizes.{shape}
 use Rattle.syndrome.specs.Syndrome.{set-of}
 use Rattle.syndrome.proofs.Parts.{part-stretch}
 use Rattle.codec.specs.Steps.{DataAdded}
-use Rattle.codec.proofs.Checks.{added-none, added-more}
+use Rattle.codec.proofs.Checks.{front-bits, added-none, added-more}
 use Rattle.codec.proofs.add_data.Statement.{statement}
 use Rattle.codec.proofs.add_data.Tie as tie
 
 abbrev Inv-loop : tie.InvT-loop
-Inv-loop sums₀ image z s l count c₀ sums c = (c ≤ count) × DataAdded (shape z) (set-of s) c image sums₀ sums
+Inv-loop sums₀ image z s l n count c₀ sums c = (c ≤ count) × DataAdded (shape z) (set-of s) c image sums₀ sums
 
 abbrev μ-loop : tie.MeasureT-loop
-μ-loop sums₀ image z s l count c₀ sums c = count - c
+μ-loop sums₀ image z s l n count c₀ sums c = count - c
 
 add-l : tie.Need-add-l Inv-loop μ-loop
 add-l c = search needs
@@ -34,7 +36,7 @@ data-tracks-requires c κs = search needs
 loop-holds : tie.Need-loop-holds Inv-loop μ-loop
 loop-holds c =
     let s = c .before .before .before .before .before in
-    (search needs, added-none _ _ _ _ (s .pre .1 .1 .1 .1))
+    (search needs, added-none _ _ _ _ (s .pre .1 .1 .1 .1 .0))
 
 add-track-number : tie.Need-add-track-number Inv-loop μ-loop
 add-track-number c = search needs
@@ -47,6 +49,16 @@ mul-start c = search needs
 
 add-end : tie.Need-add-end Inv-loop μ-loop
 add-end c = search needs
+
+-- The stretch has room for the data.
+fits : (c : tie.At-loop Inv-loop μ-loop) → let s = c .before .before .before .before .before .before in s .args .z .positions ≤ length (c .loop .sums)
+fits c = omega (arith, c .loop .inv .1 .size, c .before .before .before .before .before .before .pre .1 .1 .1 .0)
+
+slice-relend-prefix-add-track : tie.Need-slice-relend-prefix-add-track Inv-loop μ-loop
+slice-relend-prefix-add-track c = fits (c .before .before)
+
+slice-aggregate-add-track : tie.Need-slice-aggregate-add-track Inv-loop μ-loop
+slice-aggregate-add-track c = sym (length-take-le _ _ (fits (c .before .before .before)))
 
 sub-add-track : tie.Need-sub-add-track Inv-loop μ-loop
 sub-add-track c = search needs
@@ -62,10 +74,10 @@ add-track-requires c κs =
     let n = c .before .before in
     let l = n .before .before in
     let s = l .before .before .before .before .before .before in
-    let r = n .track-number .result in
-    let w = track-length (shape (s .args .z)) in
-    let t = part-stretch (now (s .args .image)) (r * w) w (search needs) (s .pre .1 .1 .0 .bits) in
-    (omega (arith, t .size, l .loop .inv .1 .size, s .pre .1 .1 .1 .0), (omega arith, (l .loop .inv .1 .bits, record { bit = t .bits })))
+    let z = s .args .z in
+    let t = part-stretch (now (s .args .image)) (n .track-number .result * track-length (shape z)) (z .positions) (search needs) (s .pre .1 .1 .0 .bits) in
+    let f = length-take-le _ _ (fits l) in
+    (t .size ∙ sym f, (omega arith, (front-bits _ _ (fits l) (l .loop .inv .1 .bits), record { bit = t .bits })))
 
 add-c : tie.Need-add-c Inv-loop μ-loop
 add-c c = search needs
@@ -79,7 +91,7 @@ loop-again c =
     let n = a .before .before .before in
     let l = n .before .before in
     let s = l .before .before .before .before .before .before in
-    (search needs, added-more _ _ _ _ _ _ _ _ (s .pre .1 .1 .1 .0) (n .track-number .ensures .is) (search needs) (l .loop .inv .1) (a .add-track .ensures))
+    (search needs, added-more _ _ _ _ _ _ _ _ (s .pre .1 .1 .1 .0) (n .track-number .ensures .is) (search needs) (s .pre .1 .1 .1 .1 .1) (l .loop .inv .1) (a .add-track .ensures))
 
 same-length : tie.Need-same-length Inv-loop μ-loop
 same-length c = search needs
@@ -106,6 +118,8 @@ add-data-spec =
     track-number-requires
     mul-start
     add-end
+    slice-relend-prefix-add-track
+    slice-aggregate-add-track
     sub-add-track
     part-add-track-start
     part-add-track-end

@@ -4,7 +4,7 @@ use Prim.Native.Nat.{_+_, _*_}
 use native.Mathlib.Omega.{arith}
 use Rattle.code.specs.Record.{A, B, track-length}
 use Rattle.code.specs.Sizes.{shape}
-use Rattle.codec.proofs.Making.{filled-image, good-record}
+use Rattle.codec.proofs.Making.{filled-image, filled-tails, tails-stay, good-record}
 use borrow.Author.Needs.{needs}
 use Rattle.codec.proofs.write_by.Statement.{statement}
 use Rattle.codec.proofs.write_by.Tie as tie
@@ -33,14 +33,19 @@ write-checks-requires c κs =
     let k = c .before .before .before .before .before .before in
     let d = k .before .before .before .before .before in
     let s = d .before .before .before .before .before .before in
-    (s .pre .0 .small, (omega arith, (filled-image (s .args .z) _ _ _ (d .write-data .ensures), (k .carry .kept .0 ∙ s .pre .1 .1 .1 .0, k .carry .ensures .bits A))))
+    let f = d .write-data .ensures in
+    let tails = filled-tails (s .args .z) _ _ _ f (s .pre .0 .positions) A in
+    (s .pre .0 .small, (omega arith, (filled-image (s .args .z) _ _ _ f, (k .carry .kept .0 ∙ s .pre .1 .1 .1 .0, (k .carry .ensures .bits A, tails)))))
 
 write-checks-requires-2 : tie.Need-write-checks-requires-2
 write-checks-requires-2 c κs =
     let p = c .before .before .before .before .before .before in
     let k = p .before .before .before .before .before .before .before in
-    let s = k .before .before .before .before .before .before .before .before .before .before .before in
-    (s .pre .0 .small, (omega arith, (p .write-checks .ensures .image, (k .carry .kept .1 .0 ∙ s .pre .1 .1 .1 .1, k .carry .ensures .bits B))))
+    let d = k .before .before .before .before .before in
+    let s = d .before .before .before .before .before .before in
+    let put = p .write-checks .ensures in
+    let tails = tails-stay (s .args .z) _ _ _ (d .write-data .ensures) (s .pre .0 .positions) _ _ _ put B in
+    (s .pre .0 .small, (omega arith, (put .image, (k .carry .kept .1 .0 ∙ s .pre .1 .1 .1 .1, (k .carry .ensures .bits B, tails)))))
 
 same-length : tie.Need-same-length
 same-length c = search needs

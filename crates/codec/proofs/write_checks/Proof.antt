@@ -7,7 +7,7 @@ use Rattle.code.specs.Record.{data-tracks}
 use Rattle.code.specs.Image.{track-number}
 use Rattle.code.specs.Sizes.{shape}
 use Rattle.syndrome.specs.Syndrome.{set-of}
-use Rattle.codec.proofs.Checks.{put-image, checks-put}
+use Rattle.codec.proofs.Checks.{put-image, put-tails, checks-put}
 use Rattle.codec.proofs.write_checks.Statement.{statement}
 use Rattle.codec.proofs.write_checks.Tie as tie
 
@@ -27,7 +27,9 @@ add-data-requires c κs =
     let p = c .before .before .before .before in
     let s = p .before .before .before .before .before .before .before in
     let size = s .pre .1 .1 .1 .0 in
-    (s .pre .0, (s .pre .1 .0, (put-image _ _ _ _ _ (s .pre .1 .1 .0) (s .pre .1 .1 .1 .1) (rw size at (p .put-track .ensures)), (size, s .pre .1 .1 .1 .1))))
+    let bits = s .pre .1 .1 .1 .1 .0 in
+    let put = rw (size, p .before .before .track-number .ensures .is) at (p .put-track .ensures) in
+    (s .pre .0, (s .pre .1 .0, (put-image _ _ _ _ _ (s .pre .1 .1 .0) bits put, (size, (bits, put-tails _ _ _ _ _ put (s .pre .1 .1 .1 .1 .1))))))
 
 add-track-number : tie.Need-add-track-number
 add-track-number c = search needs
@@ -59,7 +61,7 @@ returns c =
     let track : ℕ → ℕ = track-number (shape (s .args .z)) (set-of (s .args .s)) in
     let last : n .track-number2 .result ≡ track (suc (data-tracks (shape (s .args .z)) (set-of (s .args .s)))) =
     n .track-number2 .ensures .is ∙ ap track (omega (arith, p .before .before .before .before .data-tracks .ensures .is)) in
-    checks-put _ _ _ _ _ _ _ (s .pre .1 .1 .0) (s .pre .1 .1 .1 .1)
+    checks-put _ _ _ _ _ _ _ (s .pre .1 .1 .0) (s .pre .1 .1 .1 .1 .0)
     (rw (size, p .before .before .track-number .ensures .is) at (p .put-track .ensures))
     (d .add-data .ensures)
     (rw (d .add-data .ensures .size ∙ size, last) at (q .put-track2 .ensures))

@@ -2,8 +2,7 @@
 use native.Mathlib.Omega.{arith}
 use borrow.Author.Needs.{needs}
 use denote.Ref.{now}
-use Rattle.syndrome.specs.Syndrome.{set-of}
-use Rattle.errors.proofs.Pivoting.{diagonal-told, diagonal-implied}
+use Rattle.errors.proofs.Pivoting.{zero-told, diagonal-implied}
 use Rattle.errors.proofs.diagonal_zero.Statement.{statement}
 use Rattle.errors.proofs.diagonal_zero.Tie as tie
 
@@ -39,9 +38,7 @@ first-cells-requires : tie.Need-first-cells-requires
 first-cells-requires c κs = search needs
 
 returns-2 : tie.Need-returns-2
-returns-2 c = let a = c .before .before .before .before .before .before .before .before .before .args in
-    diagonal-told (a .z) (a .end) (a .p) (now (a .rows)) (now (a .found)) (set-of (a .d)) (a .i) _ (c .first-cells .result) _ (omega arith) (c .before .before .residue-at .ensures)
-    (c .before .rest .ensures) (c .first-cells .ensures)
+returns-2 c = zero-told _ _ _ _ (c .first-cells .result) _ (omega arith) (c .before .before .residue-at .ensures) (c .before .rest .ensures) (c .first-cells .ensures)
 
 pub diagonal-zero-spec : {M : Type 1} → statement M
 diagonal-zero-spec =

@@ -4,7 +4,7 @@ use native.Mathlib.Omega.{arith}
 use borrow.Author.Needs.{needs}
 use borrow.Author.Tests.{not-true, not-false}
 use Rattle.errors.proofs.Words.{kept-given}
-use Rattle.errors.proofs.Finding.{Finding, begin-finding, fresh-later, find-more, find-failed, find-all}
+use Rattle.errors.proofs.Finding.{Finding, start-finding, find-more, find-failed, find-all}
 use Rattle.errors.proofs.find.Statement.{statement}
 use Rattle.errors.proofs.find.Tie as tie
 
@@ -13,6 +13,15 @@ Inv-loop rows found₀ z end p start l i₀ found i = Finding z end p rows found
 
 abbrev μ-loop : tie.MeasureT-loop
 μ-loop rows found₀ z end p start l i₀ found i = 34 - i
+
+find-pivots-requires : tie.Need-find-pivots-requires Inv-loop μ-loop
+find-pivots-requires c κs = search needs
+
+same-length : tie.Need-same-length Inv-loop μ-loop
+same-length c = search needs
+
+returns : tie.Need-returns Inv-loop μ-loop
+returns c = c .before .before .find-pivots .ensures
 
 add-l : tie.Need-add-l Inv-loop μ-loop
 add-l c = search needs
@@ -23,49 +32,42 @@ add-l-2 c = search needs
 add-l-3 : tie.Need-add-l-3 Inv-loop μ-loop
 add-l-3 c = search needs
 
-begin-requires : tie.Need-begin-requires Inv-loop μ-loop
-begin-requires c κs = search needs
-
 loop-holds : tie.Need-loop-holds Inv-loop μ-loop
-loop-holds c = let s = c .before .before .before .before .before .before .before .before .pre in begin-finding _ _ _ _ _ (s .0) _ (s .1 .1 .0) (s .1 .1 .1) _ _ (c .before .before .begin .ensures)
+loop-holds c =
+    let s = c .before .before .before .before .before .before .pre in
+    start-finding _ _ _ _ _ (s .0) _ (s .1 .1 .0) (s .1 .1 .1) (s .1 .0)
 
 mul-loop : tie.Need-mul-loop Inv-loop μ-loop
 mul-loop c = omega (arith, c .loop .inv .within)
 
 step-requires : tie.Need-step-requires Inv-loop μ-loop
 step-requires c κs =
-    let f = c .before .before .loop .inv in
-    (kept-given _ _ _ _ _ _ (c .before .before .before .before .before .before .before .before .before .before .before .pre .0) (f .fresh .rows), (omega arith, (f .computed, (f .tested, f .pivots))))
-
-same-length : tie.Need-same-length Inv-loop μ-loop
-same-length c = search needs
-
-returns : tie.Need-returns Inv-loop μ-loop
-returns c =
-    let f = c .before .before .before .before .before .before .loop .inv in
-    let w = c .before .before .before .step .ensures in
-    (fresh-later _ _ _ _ (f .order) (w .later) (f .fresh), find-failed _ _ _ _ _ _ _ f _ _ w (not-true _ (c .if1 .taken)))
-
-add-i : tie.Need-add-i Inv-loop μ-loop
-add-i c = omega (arith, c .before .before .before .before .before .before .loop .inv .within)
-
-loop-less : tie.Need-loop-less Inv-loop μ-loop
-loop-less c =
-    let f = c .before .before .before .before .before .before .loop .inv in
-    omega (arith, f .within)
-
-loop-again : tie.Need-loop-again Inv-loop μ-loop
-loop-again c =
-    let f = c .before .before .before .before .before .before .loop .inv in
-    find-more _ _ _ _ _ _ _ f _ _ (c .before .before .before .step .ensures) (not-false _ (c .if1 .left)) (omega (arith, c .before .before .before .before .before .before .before .before .before .before .before .before .before .before .before .pre .0 .small))
+    let l = c .before .before in
+    let f = l .loop .inv in
+    (kept-given _ _ _ _ _ _ (l .before .before .before .before .before .before .before .pre .0) (f .fresh .rows), (omega arith, (f .computed, (f .tested, f .pivots))))
 
 same-length-2 : tie.Need-same-length-2 Inv-loop μ-loop
 same-length-2 c = search needs
 
 returns-2 : tie.Need-returns-2 Inv-loop μ-loop
-returns-2 c =
-    let f = c .before .loop .inv in
-    (f .fresh, find-all _ _ _ _ _ _ _ f (omega arith))
+returns-2 c = find-failed _ _ _ _ _ _ _ (c .before .before .before .before .before .before .loop .inv) _ _ (c .before .before .before .step .ensures) (not-true _ (c .if2 .taken))
+
+add-i : tie.Need-add-i Inv-loop μ-loop
+add-i c = omega (arith, c .before .before .before .before .before .before .loop .inv .within)
+
+loop-less : tie.Need-loop-less Inv-loop μ-loop
+loop-less c = omega (arith, c .before .before .before .before .before .before .loop .inv .within)
+
+loop-again : tie.Need-loop-again Inv-loop μ-loop
+loop-again c =
+    let l = c .before .before .before .before .before .before in
+    find-more _ _ _ _ _ _ _ (l .loop .inv) _ _ (c .before .before .before .step .ensures) (not-false _ (c .if2 .left)) (omega (arith, l .before .before .before .before .before .before .before .pre .0 .small))
+
+same-length-3 : tie.Need-same-length-3 Inv-loop μ-loop
+same-length-3 c = search needs
+
+returns-3 : tie.Need-returns-3 Inv-loop μ-loop
+returns-3 c = find-all _ _ _ _ _ _ _ (c .before .loop .inv) (omega arith)
 
 pub find-spec : {M : Type 1} → statement M
 find-spec =
@@ -73,17 +75,19 @@ find-spec =
     (tie.spec
     Inv-loop
     μ-loop
+    find-pivots-requires
+    same-length
+    returns
     add-l
     add-l-2
     add-l-3
-    begin-requires
     loop-holds
     mul-loop
     step-requires
-    same-length
-    returns
+    same-length-2
+    returns-2
     add-i
     loop-less
     loop-again
-    same-length-2
-    returns-2)
+    same-length-3
+    returns-3)

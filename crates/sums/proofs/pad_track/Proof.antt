@@ -1,4 +1,4 @@
--- `pad_track`: the track's cells, and the part of the padded track behind its zeros, are lent to `copy_first`.
+-- `pad_track`: the image from the track's first cell on, and the part of the padded track behind its zeros, are lent to `copy_first`.
 use Prim.Native.Nat.{_+_, _*_, _≤_}
 use native.Mathlib.Omega.{arith}
 use denote.Ref.{now}
@@ -29,9 +29,6 @@ add-l c = search needs
 mul-from : tie.Need-mul-from
 mul-from c = omega (arith, source-room (c .before .before .before .before))
 
-add-to : tie.Need-add-to
-add-to c = omega (arith, source-room (c .before .before .before .before))
-
 add-start : tie.Need-add-start
 add-start c = search needs
 
@@ -54,13 +51,13 @@ part-copy-first-end : tie.Need-part-copy-first-end
 part-copy-first-end c = room (c .before .before .before .before)
 
 sub-copy-first-2 : tie.Need-sub-copy-first-2
-sub-copy-first-2 c = search needs
+sub-copy-first-2 c = omega (arith, source-room (c .before .before .before .before .before))
 
 part-copy-first-start-2 : tie.Need-part-copy-first-start-2
-part-copy-first-start-2 c = search needs
+part-copy-first-start-2 c = omega (arith, source-room (c .before .before .before .before .before))
 
 part-copy-first-end-2 : tie.Need-part-copy-first-end-2
-part-copy-first-end-2 c = source-room (c .before .before .before .before .before)
+part-copy-first-end-2 c = search needs
 
 copy-first-requires : tie.Need-copy-first-requires
 copy-first-requires c κs = search needs
@@ -81,7 +78,6 @@ pad-track-spec =
     add-lag-2
     add-l
     mul-from
-    add-to
     add-start
     mul-start
     add-start-2
