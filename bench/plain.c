@@ -6,6 +6,13 @@
 /* Of a set: its data tracks, and all its tracks. Then the lag, all tracks of a record, and a track and the syndromes of the longest. */
 enum { DATA = 7, TRACKS = DATA + 2, LAG = 2 * DATA + 1, ALL = 2 * TRACKS, TRACK = 8 * 256 + LAG, ROOM = 4 * TRACK };
 
+/* Are all loops the library's of today? Else they are plainer: those of before its version 0.7.2, by which the marks were set. */
+#ifdef CLOSED_FORMS
+enum { LATEST = 1 };
+#else
+enum { LATEST = 0 };
+#endif
+
 /* Past every track. */
 enum { NONE = 16 };
 
@@ -37,9 +44,23 @@ static inline uint8_t highest(const uint8_t *s, size_t n)
     return most;
 }
 
+/* Are eight cells 0? */
+static inline bool eight_zero(const uint8_t *s)
+{
+    uint64_t x;
+    memcpy(&x, s, sizeof x);
+    return x == 0;
+}
+
+/* Few cells are tested by eights, of which the last may overlap the one before. */
 static inline bool all_zero(const uint8_t *s, size_t n)
 {
-    return highest(s, n) == 0;
+    if (!LATEST || n < 8 || 64 < n)
+        return highest(s, n) == 0;
+    for (size_t i = 8; i < n; i += 8)
+        if (!eight_zero(s + i - 8))
+            return false;
+    return eight_zero(s + n - 8);
 }
 
 /* The index of the first cell that has none of so many values. There is one. */
@@ -160,7 +181,7 @@ static void put_rows(uint8_t *restrict syn, size_t l, size_t p, const uint8_t *r
     vertical_run(syn + 3 * l + p, image, image_l, 1, m);
 }
 
-/* Copies the first cells of a track, or all where there are fewer. */
+/* Copies the first of so many cells, or all where there are fewer. */
 static inline void copy_first(uint8_t *restrict out, const uint8_t *restrict track, size_t l)
 {
     if (l < FIRST)
@@ -174,7 +195,7 @@ static void syndromes(const uint8_t *restrict image, size_t l, uint8_t *restrict
     /* The first cells of each track behind zeros, for the positions where a diagonal goes back past the start. */
     uint8_t padded[ALL * PADDED] = {0};
     for (size_t g = 0; g < ALL; g++)
-        copy_first(padded + g * PADDED + LAG, image + g * l, l);
+        copy_first(padded + g * PADDED + LAG, image + g * l, LATEST ? (ALL - g) * l : l);
     if (l < RUN) {
         uint8_t rows[4 * RUN];
         put_rows(rows, RUN, 0, padded, PADDED, LAG);
@@ -191,21 +212,23 @@ static void syndromes(const uint8_t *restrict image, size_t l, uint8_t *restrict
     }
 }
 
-/* Turns a syndrome over, where the row has it. */
-static inline void turn(uint8_t *row, size_t l, size_t m)
+/* Adds a bit to a syndrome, where the row has it. */
+static inline void turn(uint8_t *row, size_t l, size_t m, uint8_t w)
 {
     if (m < l)
-        row[m] ^= 1;
+        row[m] ^= w;
 }
 
-/* Turns one cell over, and the syndromes that it stands in. */
-static void flip(uint8_t *restrict out, uint8_t *restrict syn, size_t l, size_t s, size_t t, size_t p)
+/* Adds a bit to one cell, and to the syndromes that it stands in. */
+static void flip(uint8_t *restrict out, uint8_t *restrict syn, size_t l, size_t s, size_t t, size_t p, uint8_t w)
 {
-    out[track_number(s, t) * l + p] ^= 1;
-    turn(syn + (2 + s) * l, l, p);
+    if (!LATEST && w == 0)
+        return;
+    out[track_number(s, t) * l + p] ^= w;
+    turn(syn + (2 + s) * l, l, p, w);
     if (t <= DATA) {
-        turn(syn + s * l, l, p + t);
-        turn(syn + (1 - s) * l, l, p + LAG - t);
+        turn(syn + s * l, l, p + t, w);
+        turn(syn + (1 - s) * l, l, p + LAG - t, w);
     }
 }
 
@@ -273,22 +296,19 @@ static plan make_plan(const uint8_t *marks, size_t s)
 /* Makes a cell right by the vertical. */
 static void by_vertical(uint8_t *restrict out, uint8_t *restrict syn, size_t l, size_t s, size_t t, size_t p)
 {
-    if (t < TRACKS && syn[(2 + s) * l + p])
-        flip(out, syn, l, s, t, p);
+    if (t < TRACKS)
+        flip(out, syn, l, s, t, p, syn[(2 + s) * l + p]);
 }
 
 /* Makes a cell right in the tail: of track 0 by the diagonal of its set, 0 in a data track, else by the vertical. */
 static void by_tail(uint8_t *restrict out, uint8_t *restrict syn, size_t l, size_t s, size_t t, size_t p)
 {
-    if (t == 0) {
-        if (syn[s * l + p])
-            flip(out, syn, l, s, t, p);
-    } else if (t <= DATA) {
-        if (out[track_number(s, t) * l + p])
-            flip(out, syn, l, s, t, p);
-    } else {
+    if (t == 0)
+        flip(out, syn, l, s, t, p, syn[s * l + p]);
+    else if (t <= DATA)
+        flip(out, syn, l, s, t, p, out[track_number(s, t) * l + p]);
+    else
         by_vertical(out, syn, l, s, t, p);
-    }
 }
 
 /* Makes a cell at a position of the data right by the diagonal of its own set. */
@@ -565,12 +585,12 @@ static void carry(uint8_t *restrict a, uint8_t *restrict b, const uint8_t *restr
 }
 
 /* Writes the check tracks of a set. Track 0 is at hand, and the vertical track is the sum of it and of the data tracks, whose tails
-   are 0. */
+ * are 0. */
 static void write_checks(uint8_t *restrict out, uint8_t *restrict first, size_t l, int s)
 {
     memcpy(out + track_number(s, 0) * l, first, l);
     for (int t = 1; t <= DATA; t++)
-        add_track(first, out + track_number(s, t) * l, l - LAG, 0);
+        add_track(first, out + track_number(s, t) * l, LATEST ? l - LAG : l, 0);
     memcpy(out + track_number(s, DATA + 1) * l, first, l);
 }
 
@@ -657,10 +677,11 @@ axp_result plain_pack(uint32_t blocks, const uint8_t *restrict image, size_t ima
 /* Is every padding bit 0? */
 static bool padding_zero(const uint8_t *packed, size_t n)
 {
-    for (size_t p = 0; p < ALL; p++)
+    bool zero = true;
+    for (size_t p = 0; p < ALL && (LATEST || zero); p++)
         if (packed[p * n + n - 1] % 2 == 1)
-            return false;
-    return true;
+            zero = false;
+    return zero;
 }
 
 axp_result plain_unpack(uint32_t blocks, const uint8_t *restrict packed, size_t packed_len, uint8_t *restrict out, size_t out_len)
@@ -1021,6 +1042,13 @@ static plan plan_at(const uint8_t *marks, const uint8_t *near, size_t s)
     return (plan){if_marked(marks, s, q.low), if_marked(marks, s, q.high), if_marked(marks, s, q.last)};
 }
 
+/* Has each set at most one flagged cell, by a word? */
+static inline bool at_most_one(uint32_t word)
+{
+    uint32_t a = word & ((1 << TRACKS) - 1), b = word >> TRACKS;
+    return (a & (a - 1)) == 0 && (b & (b - 1)) == 0;
+}
+
 static void set_run(uint8_t *restrict out, uint8_t *restrict syn, size_t l, size_t s, plan q, size_t from, size_t to)
 {
     line low = find_line(out, syn, l, s, q.low), high = find_line(out, syn, l, s, q.high), last = find_line(out, syn, l, s, q.last);
@@ -1063,7 +1091,7 @@ static void solve_part(uint8_t *restrict out, uint8_t *restrict syn, size_t l, c
     for (size_t m = from, end; m < to; m = end) {
         uint8_t marks[ALL], wide[ALL];
         end = run_end(words, near, m, to);
-        if (words[m] == 0)
+        if (words[m] == 0 || (LATEST && at_most_one(words[m])))
             continue;
         marks_of(words[m], marks);
         marks_of(near[m], wide);

@@ -66,7 +66,7 @@ extern "C" {
 /* The version of this header and of the library that it was made for. */
 #define AXP_VERSION_MAJOR 0
 #define AXP_VERSION_MINOR 7
-#define AXP_VERSION_PATCH 3
+#define AXP_VERSION_PATCH 4
 
 /* The most blocks of a record. */
 #define AXP_MAX_BLOCKS 256

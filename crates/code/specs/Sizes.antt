@@ -1,5 +1,4 @@
 -- The sizes that code takes, and the shape that they describe.
-use mathlib.Core.Path.{_≡_}
 use mathlib.Core.Bool.{Bool, true, false}
 use Prim.Native.Nat.{_≤_}
 use Rattle.code.specs.Record.{Closing, closed-tail, open-tail, Shape}

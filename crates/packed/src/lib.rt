@@ -100,14 +100,15 @@ pub fn padding_set(packed: &[u8], n: usize) -> bool
     ensures { λ r. ⌜ PaddingTested n (now (packed .entry)) r ⌝ }
 {
     let w = n + 2;
+    let mut found = false;
     let mut p = 0;
     while p < 18 {
         if packed[p * w + (n + 1)] % 2 == 1 {
-            return true;
+            found = true;
         }
         p += 1;
     }
-    false
+    found
 }
 
 // Writes the first bits of a byte to a track's last cells, of which it has seven.

@@ -113,7 +113,7 @@ pub fn put_back(image: &[u8], out: &mut [u8])
     requires { ⌜ length (now image) ≤ length (now out) ⌝ }
     ensures { λ _. ⌜ Copied (now (image .entry)) (now (out .entry)) (now (out .exit)) ⌝ }
 {
-    track::copy_into(out, image);
+    track::copy_long(out, image);
 }
 
 // The answer 0 with what was changed, where marked tracks alone were, and with these extras.

@@ -14,7 +14,7 @@ use Rattle.code.specs.Image.{track-number, cells}
 use Rattle.code.specs.Sizes.{shape}
 use Rattle.code.specs.declared.Sizes.{Sizes}
 use Rattle.code.proofs.Places.{cell-lt}
-use Rattle.syndrome.specs.Syndrome.{set-of, Kept, IsCell, Flipped, CellAdded, index}
+use Rattle.syndrome.specs.Syndrome.{set-of, Kept, IsCell, CellAdded, index, turned}
 use Rattle.solver.specs.Steps.{Settled, tail-sum, ByOwn, ByOther, ByVertical, ByTail, Still}
 use Rattle.solver.proofs.Sets.{own-row, other-row}
 
@@ -50,24 +50,24 @@ index-apart sh r s u t q p h k b c d e =
 
 -- ## Settled cells
 
--- A cell that is turned over since d is 1.
-pub settled-turned : {z : Sizes} {s t p : ℕ} {out after syn syn′ : List ℕ} (bound d : ℕ) → Kept z out syn → IsCell z s t p →
-    d % 2 ≢ 0 → Flipped z s t p out after syn′ → Settled z bound s t p d out after syn′
-settled-turned {z} {s} {t} {p} {out} {after} bound d k i n f = record {
-  kept = f .kept;
-  here = λ _. ap (λ (o : List ℕ). getD o (index z s t p) 0) (f .cell) ∙ getD-set-same out (index z s t p) (1 - getD out (index z s t p) 0) 0 inside
+-- A cell that is turned over.
+settled-turned : {z : Sizes} {s t p : ℕ} {out after syn syn′ : List ℕ} (bound : ℕ) → Kept z out syn → IsCell z s t p →
+    after ≡ turned z s t p out → Kept z after syn′ → Settled z bound s t p 1 out after syn′
+settled-turned {z} {s} {t} {p} {out} bound k i e k′ = record {
+  kept = k′;
+  here = λ _. ap (λ (o : List ℕ). getD o (index z s t p) 0) e ∙ getD-set-same out (index z s t p) (1 - getD out (index z s t p) 0) 0 inside
       ∙ omega (arith, k .image .bits (index z s t p));
-  there = λ r u q h b e. ap (λ (o : List ℕ). getD o (track-number (shape z) r u * track-length (shape z) + q) 0) (f .cell)
+  there = λ r u q h b d. ap (λ (o : List ℕ). getD o (track-number (shape z) r u * track-length (shape z) + q) 0) e
       ∙ getD-set-other out (index z s t p) _ (1 - getD out (index z s t p) 0) 0
-      (index-apart (shape z) r (set-of s) u t q p h (i .track-small) b (i .position-small) e);
+      (index-apart (shape z) r (set-of s) u t q p h (i .track-small) b (i .position-small) d);
 }
   where
     inside : index z s t p < length out
     inside = omega (arith, cell-lt (shape z) (set-of s) t p (i .track-small) (i .position-small), k .image .size)
 
--- A cell that stays since d is 0.
-pub settled-same : {z : Sizes} {s t p : ℕ} {out syn : List ℕ} (bound d : ℕ) → Kept z out syn → d % 2 ≡ 0 → Settled z bound s t p d out out syn
-settled-same {z} {s} {t} {p} bound d k e = record {
+-- A cell that stays.
+settled-same : {z : Sizes} {s t p : ℕ} {out syn : List ℕ} (bound : ℕ) → Kept z out syn → Settled z bound s t p 0 out out syn
+settled-same {z} {s} {t} {p} bound k = record {
   kept = k;
   here = λ _. omega (arith, k .image .bits (index z s t p));
   there = λ r u q h b n. refl;
@@ -76,8 +76,8 @@ settled-same {z} {s} {t} {p} bound d k e = record {
 -- A cell to which a bit is added.
 pub settled-added : {z : Sizes} {s t p : ℕ} {out after syn syn′ : List ℕ} (bound w : ℕ) → w < 2 → Kept z out syn → IsCell z s t p →
     CellAdded z s t p w out after syn′ → Settled z bound s t p w out after syn′
-settled-added bound zero h k i c = rw (c .zero refl) (settled-same bound 0 (rw (c .zero refl) at (c .kept)) refl)
-settled-added bound (suc zero) h k i c = settled-turned bound 1 k i (omega arith) (record { cell = c .one refl; kept = c .kept })
+settled-added bound zero h k i c = rw (c .zero refl) (settled-same bound (rw (c .zero refl) at (c .kept)))
+settled-added bound (suc zero) h k i c = settled-turned bound k i (c .one refl) (c .kept)
 settled-added bound (suc (suc w)) h k i c = absurd (omega arith)
 
 -- By a syndrome, whatever its index is called.

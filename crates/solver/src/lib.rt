@@ -69,7 +69,7 @@ pub fn make_plan(marks: &[u8], z: Sizes, s: usize) -> Plan
     }
 }
 
-// Turns a cell over where the sum at m of a row of the syndromes is not 0.
+// Adds the sum at m of a row of the syndromes to a cell.
 fn mend(
     out: &mut [u8],
     syn: &mut [u8],
@@ -88,9 +88,8 @@ fn mend(
 {
     let l = z.positions + (z.t1 + z.t2 + 1);
     let i = row * l + m;
-    if syn[i] != 0 {
-        syndrome::flip(out, syn, z, s, t, p);
-    }
+    let w = syn[i];
+    syndrome::add_any(out, syn, z, s, t, p, w);
 }
 
 // Makes the cell of a track at p right by the diagonal of its own set, where t is a track on it.
@@ -117,7 +116,7 @@ pub fn by_vertical(out: &mut [u8], syn: &mut [u8], z: Sizes, s: usize, t: usize,
     }
 }
 
-// Makes a cell 0.
+// Makes a cell 0: adds it to itself.
 fn clear_cell(out: &mut [u8], syn: &mut [u8], z: Sizes, s: usize, t: usize, p: usize)
     requires { ⌜ Kept z (now out) (now syn) ⌝ }
     requires { ⌜ IsCell z s t p ⌝ }
@@ -125,9 +124,8 @@ fn clear_cell(out: &mut [u8], syn: &mut [u8], z: Sizes, s: usize, t: usize, p: u
 {
     let l = z.positions + (z.t1 + z.t2 + 1);
     let start = syndrome::track_number(z, s, t) * l;
-    if syndrome::cell_on_track(out, l, start, p) != 0 {
-        syndrome::flip(out, syn, z, s, t, p);
-    }
+    let w = syndrome::cell_on_track(out, l, start, p);
+    syndrome::add_any(out, syn, z, s, t, p, w);
 }
 
 // Makes the cell of a track right in the tail.

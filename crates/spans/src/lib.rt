@@ -101,7 +101,7 @@ fn repair_by(
     if stretches::solve(out, syn, z, words, near) {
         return answer_of(z, words, image, out);
     }
-    track::copy_into(out, image);
+    track::copy_long(out, image);
     plain_answer(7, 0)
 }
 

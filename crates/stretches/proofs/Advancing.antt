@@ -1,5 +1,5 @@
 -- From position to position: first the sets with one flagged cell, then all cells.
-use mathlib.Core.Path.{_≡_, refl, sym, _∙_}
+use mathlib.Core.Path.{_≡_, refl, sym, _∙_, subst}
 use mathlib.Core.Logic.{by-cases}
 use mathlib.Core.Bool.{Bool, true, false, true≢false}
 use mathlib.Core.List.{List}
@@ -9,7 +9,7 @@ use native.Mathlib.Omega.{arith}
 use lib.ListN.{getD}
 use Rattle.code.specs.Record.{TrackSet, A, B, other, Shape, tracks, track-length, Cells, Good}
 use Rattle.code.specs.Image.{cells}
-use Rattle.code.specs.Flags.{CellFlags, flag-count, AgreeOff}
+use Rattle.code.specs.Flags.{CellFlags, word-flags, flag-count, AgreeOff}
 use Rattle.code.specs.Sizes.{shape, Small}
 use Rattle.code.specs.declared.Sizes.{Sizes}
 use Rattle.code.proofs.Linear.{good-same}
@@ -50,31 +50,18 @@ advanced-join v w = record {
 }
 
 -- Positions without a flagged cell.
-module _ {z : Sizes} {flag : CellFlags} {from to : ℕ} {out syn : List ℕ} (k : Kept z out syn) (h : to ≤ track-length (shape z))
-    (none : (s : TrackSet) (t q : ℕ) → from ≤ q → q < to → flag s t q ≡ false) where
-  pub ones-clear : OnesTo z flag from to out out syn
-  ones-clear = record {
-    kept = k;
-    only = record { cell = λ s t q l b e. refl };
-    ready = λ y r. record {
-      good = r .good;
-      clear = r .clear;
-      ones = λ s t q l b c. by-cases (decLt q from) (λ i. r .ones s t q l i c) (λ i. r .clear .cell s t q l (omega arith) (none s t q (omega arith) b));
-      before = r .before;
-    };
-  }
-
-  pub all-clear : AllTo z flag from to out out syn
-  all-clear = record {
-    kept = k;
-    only = record { cell = λ s t q l b e. refl };
-    ready = λ y r. record {
-      good = r .good;
-      clear = r .clear;
-      ones = r .ones;
-      before = λ s t q l b. by-cases (decLt q from) (λ i. r .before s t q l i) (λ i. r .clear .cell s t q l (omega arith) (none s t q (omega arith) b));
-    };
-  }
+ones-clear : {z : Sizes} {flag : CellFlags} {from to : ℕ} {out syn : List ℕ} → Kept z out syn → to ≤ track-length (shape z) →
+    ((s : TrackSet) (t q : ℕ) → from ≤ q → q < to → flag s t q ≡ false) → OnesTo z flag from to out out syn
+ones-clear {from = from} k h none = record {
+  kept = k;
+  only = record { cell = λ s t q l b e. refl };
+  ready = λ y r. record {
+    good = r .good;
+    clear = r .clear;
+    ones = λ s t q l b c. by-cases (decLt q from) (λ i. r .ones s t q l i c) (λ i. r .clear .cell s t q l (omega arith) (none s t q (omega arith) b));
+    before = r .before;
+  };
+}
 
 -- ## One flagged cell
 
@@ -246,17 +233,10 @@ ones-word-none {z} {word} k h e = record {
   advanced = λ words alike. ones-clear k h (λ s t q a b. zero-flags (shape z) (getD words q 0) (alike q a b ∙ e) s t);
 }
 
-pub all-word-none : {z : Sizes} {word wide from to : ℕ} {out syn : List ℕ} → Kept z out syn → to ≤ track-length (shape z) → word ≡ 0 →
-    AllWord z word wide from to out out syn
-all-word-none {z} {word} k h e = record {
-  kept = k;
-  advanced = λ words near w alike. all-clear k h (λ s t q a b. zero-flags (shape z) (getD words q 0) (alike .word-at q a b ∙ e) s t);
-}
-
 -- With one flagged cell a set at the most.
-pub all-word-ones : {z : Sizes} {word wide from to : ℕ} {marks out syn : List ℕ} → Kept z out syn → to ≤ track-length (shape z) → Marks word marks →
-    flag-count (shape z) (marked (shape z) marks) A ≤ 1 → flag-count (shape z) (marked (shape z) marks) B ≤ 1 → AllWord z word wide from to out out syn
-all-word-ones {z} {word} {wide} {from} {to} {marks} k h m a b = record {
+pub all-word-ones : {z : Sizes} {word wide from to : ℕ} {out syn : List ℕ} → Kept z out syn → to ≤ track-length (shape z) →
+    ((s : TrackSet) → flag-count (shape z) (word-flags (shape z) word) s ≤ 1) → AllWord z word wide from to out out syn
+all-word-ones {z} {word} {wide} {from} k h few = record {
   kept = k;
   advanced = λ words near w alike. record {
     kept = k;
@@ -266,17 +246,10 @@ all-word-ones {z} {word} {wide} {from} {to} {marks} k h m a b = record {
       clear = r .clear;
       ones = r .ones;
       before = λ s t q l i. by-cases (decLt q from) (λ j. r .before s t q l j)
-          (λ j. r .ones s t q l (omega arith) (few words q (alike .word-at q (omega arith) i) s));
+          (λ j. r .ones s t q l (omega arith) (subst (λ (v : ℕ). flag-count (shape z) (word-flags (shape z) v) s ≤ 1) (sym (alike .word-at q (omega arith) i)) (few s)));
     };
   };
 }
-  where
-    few : (words : List ℕ) (q : ℕ) → getD words q 0 ≡ word → (s : TrackSet) → flag-count (shape z) (flags-at (word-cells (shape z) words) q) s ≤ 1
-    few words q e s = omega (
-      arith,
-      in-each (λ s. flag-count (shape z) (marked (shape z) marks) s ≤ 1) a b s,
-      count-same (shape z) (marked (shape z) marks) (flags-at (word-cells (shape z) words) q) (marks-at z word marks (k .small) m words q e) s,
-    )
 
 -- With the tracks and plans of their marks.
 pub ones-word-run : {z : Sizes} {word a b from to : ℕ} {marks o₀ o₁ o₂ k₁ k₂ : List ℕ} → Small z → to ≤ track-length (shape z) → Marks word marks →

@@ -1,9 +1,9 @@
 -- What the steps of solving by flagged cells ask and give.
 use mathlib.Core.Path.{_≡_}
 use mathlib.Core.Logic.{_≢_}
-use mathlib.Core.Bool.{true, false}
+use mathlib.Core.Bool.{Bool, true, false}
 use mathlib.Core.List.{List}
-use Prim.Native.Nat.{ℕ, _+_, _<_, _≤_}
+use Prim.Native.Nat.{ℕ, _+_, _/_, _%_, _^_, _<_, _≤_}
 use lib.ListN.{getD}
 use Rattle.code.specs.Record.{TrackSet, other, Shape, tracks, lag, track-length, Cells, Good}
 use Rattle.code.specs.Image.{cells}
@@ -46,6 +46,14 @@ pub record Part (z : Sizes) (from to : ℕ) : Type 0 where
 -- A word flags three tracks of a set at the most.
 pub record Few (sh : Shape) (word : ℕ) : Type 0 where
   pub most : (s : TrackSet) → flag-count sh (word-flags sh word) s ≤ 3
+
+-- True only if, of any two bits of a number, one is 0.
+pub record OneBit (x : ℕ) (r : Bool) : Type 0 where
+  pub one : r ≡ true → (u t : ℕ) → u < t → x / 2 ^ u % 2 ≡ 1 → x / 2 ^ t % 2 ≢ 1
+
+-- True only if a word flags one track of a set at the most.
+pub record AtMostOne (sh : Shape) (word : ℕ) (r : Bool) : Type 0 where
+  pub most : r ≡ true → (s : TrackSet) → flag-count sh (word-flags sh word) s ≤ 1
 
 -- The word of a position and that of its window, whose tracks have a code.
 pub record InWindow (sh : Shape) (word wide : ℕ) : Type 0 where

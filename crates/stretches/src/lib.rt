@@ -15,7 +15,7 @@ ghost use Rattle.solver.specs.Solver.{marked};
 ghost use Rattle.solver.specs.Steps.{Ahead};
 ghost use Rattle.flags.specs.Words.{word-cells, Windows};
 ghost use Rattle.stretches.specs.Stretches.{Solved};
-ghost use Rattle.stretches.specs.Steps.{RunEnd, Part, Few, InWindow, Below, OneTrack, IfFlagged, PlanAt, OnesTo, AllTo, OnesWord, SetRun, AllRun, AllWord};
+ghost use Rattle.stretches.specs.Steps.{RunEnd, Part, Few, OneBit, AtMostOne, InWindow, Below, OneTrack, IfFlagged, PlanAt, OnesTo, AllTo, OnesWord, SetRun, AllRun, AllWord};
 
 // Where the run of positions that begins at `from` ends, `to` at the latest: their words and those of their windows are the same.
 fn run_end(words: &[u32], near: &[u32], from: usize, to: usize) -> usize
@@ -124,6 +124,28 @@ fn ones_part(
 }
 
 // ---- Two and three flagged cells
+
+// True only if at most one bit of a number is 1.
+fn few_bits(x: u32) -> bool
+    ensures { λ r. ⌜ OneBit x r ⌝ }
+{
+    if x == 0 {
+        return true;
+    }
+    x & (x - 1) == 0
+}
+
+// True only if the word flags at most one cell of each set.
+fn at_most_one(z: Sizes, word: u32) -> bool
+    requires { ⌜ Small z ⌝ }
+    ensures { λ r. ⌜ AtMostOne (shape z) word r ⌝ }
+{
+    let a = z.t1 + 2;
+    if few_bits(word >> a) {
+        return few_bits(word % (1 << a));
+    }
+    false
+}
 
 // Track t of a set if it is marked, else NONE.
 fn if_marked(marks: &[u8], z: Sizes, s: usize, t: usize) -> usize
@@ -258,18 +280,13 @@ fn solve_word(
     requires { ⌜ Part z from to ⌝ }
     ensures { λ _. ⌜ AllWord z word wide from to (now (out .entry)) (now (out .exit)) (now (syn .exit)) ⌝ }
 {
-    if word == 0 {
+    if at_most_one(z, word) {
         return;
     }
     let marks = flags::marks_of(word);
     let near = flags::marks_of(wide);
     let a = plan_at(&marks, &near, z, 0);
     let b = plan_at(&marks, &near, z, 1);
-    if solver::is_single(z, 0, a) {
-        if solver::is_single(z, 1, b) {
-            return;
-        }
-    }
     if from < z.positions {
         data_run(out, syn, z, a, b, from, to);
         return;

@@ -14,7 +14,6 @@ use Rattle.code.specs.Record.{data-tracks, lag, track-length}
 use Rattle.code.specs.Sizes.{shape}
 use Rattle.code.specs.declared.Sizes.{Sizes}
 use Rattle.code.proofs.Cell.{lag-sets}
-use Rattle.code.proofs.Mono.{mono}
 use Rattle.code.specs.Image.{track-number, all-tracks}
 use Rattle.code.proofs.Places.{number-lt, cell-lt}
 use Rattle.track.proofs.Rows.{row-end}
@@ -22,8 +21,8 @@ use Rattle.track.specs.Track.{Bits}
 use Rattle.track.proofs.Parts.{part-at, put-list}
 use Rattle.syndrome.specs.declared.Line.{Line}
 use Rattle.syndrome.specs.Syndrome.{set-of, Kept, IsCell, LineOf, CellAdded}
-use Rattle.syndrome.specs.Steps.{IsTrack, Rows, RowAdded, BitAdded, TrackAdded}
-use Rattle.syndrome.proofs.Turning.{turned-at, turned-row, flipped}
+use Rattle.syndrome.specs.Steps.{IsTrack, Rows, one-cell, RowAdded, BitAdded, TrackAdded}
+use Rattle.syndrome.proofs.OneCell.{turned-at, bit-row, cell-added}
 use Rattle.syndrome.proofs.Law.{on-diagonals, on-vertical}
 
 -- What `add_bit` gives.
@@ -71,10 +70,6 @@ bit-on-track xs ys a l p w bits room h k b = go w k b
             ∙ sym (getD-set-other xs (a + p) (a + m) (1 - getD xs (a + p) 0) 0 (λ q. d (omega arith)))
     go (suc (suc w)) k b = absurd (omega arith)
 
--- A bit 1 added to one row.
-one-row : (l row p off i : ℕ) (syn after : List ℕ) → Rows l syn → row < 4 → p + off < l → i ≡ row * l + (p + off) → BitAdded syn i 1 after → RowAdded l row (mono p) off syn after
-one-row l row p off i syn after rows h k e b = rw (b .one refl, e) (turned-row l row p off syn rows h k)
-
 module _ {z : Sizes} {s t : ℕ} {line : Line} {out syn : List ℕ} (p : ℕ) (kept : Kept z out syn) (track : IsTrack z s t) (at : LineOf z s t line) (h : p < z .positions) where
   -- Each track is within the lag.
   on : t ≤ lag (shape z)
@@ -109,27 +104,25 @@ module _ {z : Sizes} {s t : ℕ} {line : Line} {out syn : List ℕ} (p : ℕ) (k
   pub other-in : line .other + p < 4 * track-length (shape z)
   other-in = omega (arith, at .other (track .track-small), row-lt (1 - s) (p + (lag (shape z) - t)) (omega arith) (omega arith))
 
-  -- A bit 1 added to the cell and to its sums.
-  turned-cell : (o n : List ℕ) → BitAdded out (line .cell + p) 1 o → TrackAdded (shape z) (set-of s) t (mono p) syn n → CellAdded z s t p 1 out o n
-  turned-cell o n b a = rw (b .one refl, at .cell (track .track-small)) (record { kept = flipped z s t p out syn kept is-cell n a .kept; zero = λ e. absurd (omega arith); one = λ _. refl })
+  -- The bit is added to the vertical.
+  vertical-row : (w : ℕ) (n₁ : List ℕ) → w < 2 → BitAdded syn (line .vertical + p) w n₁ → RowAdded (track-length (shape z)) (2 + s) (one-cell w p) 0 syn n₁
+  vertical-row w n₁ k v = bit-row _ (2 + s) p 0 w syn rows (omega (arith, track .set-small)) _ n₁ k (omega arith) (omega (arith, at .vertical (track .track-small))) v
+
+  -- And to the cell.
+  with-cell : (w : ℕ) (o₁ n : List ℕ) → w < 2 → BitAdded out (line .cell + p) w o₁ → TrackAdded (shape z) (set-of s) t (one-cell w p) syn n → CellAdded z s t p w out o₁ n
+  with-cell w o₁ n k b = cell-added z s t p w out syn kept is-cell k o₁ n (rw (at .cell (track .track-small)) at b)
 
   -- What `add_cell` gives on a track that crosses the diagonals.
   pub crossed-added : (w : ℕ) (o₁ n₁ n₂ n₃ : List ℕ) → w < 2 → t ≤ data-tracks (shape z) (set-of s) →
       BitAdded out (line .cell + p) w o₁ → BitAdded syn (line .vertical + p) w n₁ → BitAdded n₁ (line .own + p) w n₂ → BitAdded n₂ (line .other + p) w n₃ →
       CellAdded z s t p w out o₁ n₃
-  crossed-added zero o₁ n₁ n₂ n₃ k d b v a c = rw (b .zero refl, c .zero refl, a .zero refl, v .zero refl) (record { kept = kept; zero = λ _. refl; one = λ e. absurd (omega arith) })
-  crossed-added (suc zero) o₁ n₁ n₂ n₃ k d b v a c =
-      let v′ = one-row _ (2 + s) p 0 _ syn n₁ rows (omega (arith, track .set-small)) (omega arith) (omega (arith, at .vertical (track .track-small))) v in
-      let a′ = one-row _ s p t _ n₁ n₂ (v′ .rows) (omega (arith, track .set-small)) (omega (arith, on)) (omega (arith, at .own (track .track-small))) a in
-      let c′ = one-row _ (1 - s) p (lag (shape z) - t) _ n₂ n₃ (a′ .rows) (omega arith) (omega arith) (omega (arith, at .other (track .track-small))) c in
-      turned-cell o₁ n₃ b (on-diagonals _ s t (mono p) syn n₁ n₂ n₃ (track .set-small) d v′ a′ c′)
-  crossed-added (suc (suc w)) o₁ n₁ n₂ n₃ k d b v a c = absurd (omega arith)
+  crossed-added w o₁ n₁ n₂ n₃ k d b v a c =
+      let v′ = vertical-row w n₁ k v in
+      let a′ = bit-row _ s p t w n₁ (v′ .rows) (omega (arith, track .set-small)) _ n₂ k (omega (arith, on)) (omega (arith, at .own (track .track-small))) a in
+      let c′ = bit-row _ (1 - s) p (lag (shape z) - t) w n₂ (a′ .rows) (omega arith) _ n₃ k (omega arith) (omega (arith, at .other (track .track-small))) c in
+      with-cell w o₁ n₃ k b (on-diagonals _ s t _ syn n₁ n₂ n₃ (track .set-small) d v′ a′ c′)
 
   -- And on the vertical track.
   pub vertical-added : (w : ℕ) (o₁ n₁ : List ℕ) → w < 2 → data-tracks (shape z) (set-of s) < t →
       BitAdded out (line .cell + p) w o₁ → BitAdded syn (line .vertical + p) w n₁ → CellAdded z s t p w out o₁ n₁
-  vertical-added zero o₁ n₁ k d b v = rw (b .zero refl, v .zero refl) (record { kept = kept; zero = λ _. refl; one = λ e. absurd (omega arith) })
-  vertical-added (suc zero) o₁ n₁ k d b v =
-      let v′ = one-row _ (2 + s) p 0 _ syn n₁ rows (omega (arith, track .set-small)) (omega arith) (omega (arith, at .vertical (track .track-small))) v in
-      turned-cell o₁ n₁ b (on-vertical _ s t (mono p) syn n₁ (track .set-small) (track .track-small) d v′)
-  vertical-added (suc (suc w)) o₁ n₁ k d b v = absurd (omega arith)
+  vertical-added w o₁ n₁ k d b v = with-cell w o₁ n₁ k b (on-vertical _ s t _ syn n₁ (track .set-small) (track .track-small) d (vertical-row w n₁ k v))

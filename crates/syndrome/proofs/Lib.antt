@@ -2,7 +2,7 @@ pub mod Table
 pub mod Numbered
 pub mod Parts
 pub mod Law
-pub mod Turning
+pub mod OneCell
 pub mod Testing
 pub mod Adding
 pub mod Copies

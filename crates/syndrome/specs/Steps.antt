@@ -11,6 +11,7 @@ use Rattle.code.specs.Sizes.{shape, Small}
 use Rattle.code.specs.declared.Sizes.{Sizes}
 use Rattle.track.specs.Track.{Bits}
 use Rattle.code.proofs.Linear.{_⊞_}
+use Rattle.code.proofs.Mono.{mono}
 use Rattle.code.proofs.OneTrack.{put}
 use Rattle.syndrome.specs.Syndrome.{set-of, Holds}
 
@@ -48,6 +49,10 @@ pub record Ready (l row off : ℕ) (syn : List ℕ) : Type 0 where
   pub row-small : row < 4
   pub off-small : off ≤ l
   pub rows : Rows l syn
+
+-- The track whose cell at p is w, and whose other cells are 0.
+abbrev pub one-cell : ℕ → ℕ → ℕ → ℕ
+one-cell w p m = w * mono p m
 
 -- A track is added to one row modulo 2, its first cell at `off`, and the other rows stay.
 pub record RowAdded (l row : ℕ) (f : ℕ → ℕ) (off : ℕ) (before after : List ℕ) : Type 0 where

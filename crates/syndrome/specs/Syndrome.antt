@@ -51,11 +51,6 @@ index z s t p = track-number (shape z) (set-of s) t * track-length (shape z) + p
 abbrev pub turned : Sizes → ℕ → ℕ → ℕ → List ℕ → List ℕ
 turned z s t p out = set out (index z s t p) (1 - getD out (index z s t p) 0)
 
--- What `flip` gives: the cell is turned over, and the syndromes are those of the new copy.
-pub record Flipped (z : Sizes) (s t p : ℕ) (out after syn : List ℕ) : Type 0 where
-  pub cell : after ≡ turned z s t p out
-  pub kept : Kept z after syn
-
 -- Where the cells of track t begin, if a set has it: in the image, and in the rows of its set's diagonal, of the other set's and of its vertical.
 pub record LineOf (z : Sizes) (s t : ℕ) (line : Line) : Type 0 where
   pub cell : t < tracks (shape z) (set-of s) → line .cell ≡ track-number (shape z) (set-of s) t * track-length (shape z)
@@ -63,7 +58,7 @@ pub record LineOf (z : Sizes) (s t : ℕ) (line : Line) : Type 0 where
   pub other : t < tracks (shape z) (set-of s) → line .other ≡ (1 - s) * track-length (shape z) + (lag (shape z) - t)
   pub vertical : t < tracks (shape z) (set-of s) → line .vertical ≡ (2 + s) * track-length (shape z)
 
--- What `add_cell` gives: the cell is turned over if w is 1, and the syndromes are those of the new copy.
+-- What `add_any` and `add_cell` give: the cell is turned over if w is 1, and the syndromes are those of the new copy.
 pub record CellAdded (z : Sizes) (s t p w : ℕ) (out after syn : List ℕ) : Type 0 where
   pub kept : Kept z after syn
   pub zero : w ≡ 0 → after ≡ out

@@ -8,14 +8,14 @@ ghost use Rattle.code.specs.Record.{track-length, vertical-end, tail-tracks};
 ghost use Rattle.track.specs.Track.{Bits};
 ghost use Rattle.code.specs.Image.{cells};
 ghost use Rattle.code.specs.Sizes.{shape, Small};
-ghost use Rattle.code.proofs.Mono.{mono};
-ghost use Rattle.syndrome.specs.Syndrome.{set-of, Image, Kept, IsCell, Flipped, LineOf, CellAdded, Tested};
+ghost use Rattle.syndrome.specs.Syndrome.{set-of, Image, Kept, IsCell, LineOf, CellAdded, Tested};
 ghost use Rattle.syndrome.specs.Steps.{
   IsTrack,
   DataTracks,
   TrackNumber,
   Rows,
   Ready,
+  one-cell,
   RowAdded,
   BitAdded,
   TrackAdded,
@@ -59,35 +59,6 @@ pub fn track_number(z: Sizes, s: usize, t: usize) -> usize
     if s == 0 { t } else { z.t1 + 2 + t }
 }
 
-// Turns the cell `off` after p of a row of the syndromes over, where the row has it.
-fn turn(syn: &mut [u8], l: usize, row: usize, p: usize, off: usize)
-    requires { ⌜ Ready l row off (now syn) ⌝ }
-    requires { ⌜ p < l ⌝ }
-    ensures { λ _. ⌜ RowAdded l row (mono p) off (now (syn .entry)) (now (syn .exit)) ⌝ }
-{
-    let m = p + off;
-    if m < l {
-        let i = row * l + m;
-        syn[i] = 1 - syn[i];
-    }
-}
-
-// Turns a cell over in the sums that it stands in.
-fn turn_sums(syn: &mut [u8], z: Sizes, s: usize, t: usize, p: usize)
-    requires { ⌜ IsTrack z s t ⌝ }
-    requires { ⌜ p < track-length (shape z) ⌝ }
-    requires { ⌜ Rows (track-length (shape z)) (now syn) ⌝ }
-    ensures { λ _. ⌜ TrackAdded (shape z) (set-of s) t (mono p) (now (syn .entry)) (now (syn .exit)) ⌝ }
-{
-    let lag = z.t1 + z.t2 + 1;
-    let l = z.positions + lag;
-    turn(syn, l, 2 + s, p, 0);
-    if t <= data_tracks(z, s) {
-        turn(syn, l, s, p, t);
-        turn(syn, l, 1 - s, p, lag - t);
-    }
-}
-
 // Adds a bit to a cell of a list.
 fn add_bit(xs: &mut [u8], i: usize, w: u8)
     requires { ⌜ Bits (now xs) ⌝ }
@@ -96,6 +67,36 @@ fn add_bit(xs: &mut [u8], i: usize, w: u8)
     ensures { λ _. ⌜ BitAdded (now (xs .entry)) i w (now (xs .exit)) ⌝ }
 {
     xs[i] = xs[i] ^ w;
+}
+
+// Adds a bit to the sum `off` after p of a row of the syndromes, where the row has it.
+fn add_sum(syn: &mut [u8], l: usize, row: usize, p: usize, off: usize, w: u8)
+    requires { ⌜ Ready l row off (now syn) ⌝ }
+    requires { ⌜ p < l ⌝ }
+    requires { ⌜ w < 2 ⌝ }
+    ensures { λ _. ⌜ RowAdded l row (one-cell w p) off (now (syn .entry)) (now (syn .exit)) ⌝ }
+{
+    let m = p + off;
+    if m < l {
+        add_bit(syn, row * l + m, w);
+    }
+}
+
+// Adds a bit to the sums that a cell stands in.
+fn add_sums(syn: &mut [u8], z: Sizes, s: usize, t: usize, p: usize, w: u8)
+    requires { ⌜ IsTrack z s t ⌝ }
+    requires { ⌜ p < track-length (shape z) ⌝ }
+    requires { ⌜ Rows (track-length (shape z)) (now syn) ⌝ }
+    requires { ⌜ w < 2 ⌝ }
+    ensures { λ _. ⌜ TrackAdded (shape z) (set-of s) t (one-cell w p) (now (syn .entry)) (now (syn .exit)) ⌝ }
+{
+    let lag = z.t1 + z.t2 + 1;
+    let l = z.positions + lag;
+    add_sum(syn, l, 2 + s, p, 0, w);
+    if t <= data_tracks(z, s) {
+        add_sum(syn, l, s, p, t, w);
+        add_sum(syn, l, 1 - s, p, lag - t, w);
+    }
 }
 
 // Adds a bit to the cell at p of the track whose stretch, of l cells, begins at `start`.
@@ -121,16 +122,17 @@ pub fn cell_on_track(out: &[u8], l: usize, start: usize, p: usize) -> u8
     track[p]
 }
 
-// Turns one cell over, and the syndromes that it stands in.
-pub fn flip(out: &mut [u8], syn: &mut [u8], z: Sizes, s: usize, t: usize, p: usize)
+// Adds a bit to a cell at any position, and to the syndromes that it stands in. Does the same whether the bit is 0 or 1.
+pub fn add_any(out: &mut [u8], syn: &mut [u8], z: Sizes, s: usize, t: usize, p: usize, w: u8)
     requires { ⌜ Kept z (now out) (now syn) ⌝ }
     requires { ⌜ IsCell z s t p ⌝ }
-    ensures { λ _. ⌜ Flipped z s t p (now (out .entry)) (now (out .exit)) (now (syn .exit)) ⌝ }
+    requires { ⌜ w < 2 ⌝ }
+    ensures { λ _. ⌜ CellAdded z s t p w (now (out .entry)) (now (out .exit)) (now (syn .exit)) ⌝ }
 {
     let l = z.positions + (z.t1 + z.t2 + 1);
     let start = track_number(z, s, t) * l;
-    add_on_track(out, l, start, p, 1);
-    turn_sums(syn, z, s, t, p);
+    add_on_track(out, l, start, p, w);
+    add_sums(syn, z, s, t, p, w);
 }
 
 // Where the cells of a track begin: in the image, and in the rows of its set's diagonal, of the other set's and of its vertical.
@@ -165,7 +167,7 @@ pub fn find_line(z: Sizes, s: usize, t: usize) -> Line
     }
 }
 
-// Adds a bit to a cell at a position of the data, and to the syndromes that it stands in. Does the same whether the bit is 0 or 1.
+// Adds a bit to a cell at a position of the data, by its track's line, and to the syndromes that it stands in. Does the same whether the bit is 0 or 1.
 pub fn add_cell(
     out: &mut [u8],
     syn: &mut [u8],

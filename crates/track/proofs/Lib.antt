@@ -1,4 +1,5 @@
 pub mod Cells
+pub mod Long
 pub mod Lost
 pub mod Parts
 pub mod Rows

@@ -64,6 +64,26 @@ pub fn copy_into(out: &mut [u8], source: &[u8])
     }
 }
 
+// The same for a long stretch, by way of a room of its own: between a lent stretch and a room a copy compiles to a move of memory, which
+// it does not between two lent ones.
+pub fn copy_long(out: &mut [u8], source: &[u8])
+    requires { ⌜ length (now source) ≤ length (now out) ⌝ }
+    ensures { λ _. ⌜ Copied (now (source .entry)) (now (out .entry)) (now (out .exit)) ⌝ }
+{
+    let l = source.len();
+    let mut room = [0u8; 4096];
+    let mut at = 0;
+    while 4096 < l - at {
+        let end = at + 4096;
+        copy_into(&mut room, &source[at..end]);
+        copy_into(&mut out[at..end], &room);
+        at = end;
+    }
+    let rest = l - at;
+    copy_into(&mut room[..rest], &source[at..]);
+    copy_into(&mut out[at..l], &room[..rest]);
+}
+
 // A cell, and 0 where it is lost.
 fn known_cell(x: u8) -> u8
     requires { ⌜ x < read-values ⌝ }

@@ -147,7 +147,7 @@ fn put_file(out: &mut [u8], count: u32, entries: &[u8])
     let first = 2 + 8 * count as usize;
     put_two(&mut out[0..2], count);
     put_directory(&mut out[2..first], count as usize, entries);
-    track::copy_into(&mut out[first..], entries);
+    track::copy_long(&mut out[first..], entries);
 }
 
 // ---- The call

@@ -1,21 +1,22 @@
--- `padding_set`: the loop's invariant is that the padding bits of the first p places are 0.
-use mathlib.Core.Path.{sym}
-use mathlib.Core.Logic.{_≢_}
-use mathlib.Core.Bool.{true≢false}
+-- `padding_set`: the loop's invariant is that `found` says whether a padding bit of the first p places is 1.
+use mathlib.Core.Path.{_≡_, sym, _∙_}
+use mathlib.Core.Logic.{_≢_, ⊎-elim}
+use mathlib.Core.Bool.{true, false, true≢false}
 use Prim.Native.Nat.{ℕ, _+_, _*_, _%_, _≤_, _-_, _<_}
 use native.Mathlib.Omega.{arith}
 use borrow.Author.Count.{below-more}
 use borrow.Author.Needs.{needs}
 use lib.Arith.{digits-lt}
 use lib.ListN.{length, getD}
+use Rattle.code.specs.Packed.{PaddingSet}
 use Rattle.packed.proofs.padding_set.Statement.{statement}
 use Rattle.packed.proofs.padding_set.Tie as tie
 
 abbrev Inv-loop : tie.InvT-loop
-Inv-loop packed n w p₀ p = (p ≤ 18) × ((q : ℕ) → q < p → getD packed (q * w + (n + 1)) 0 % 2 ≢ 1)
+Inv-loop packed n w found₀ p₀ found p = (p ≤ 18) × (found ≡ true → PaddingSet n packed) × (found ≡ false → (q : ℕ) → q < p → getD packed (q * w + (n + 1)) 0 % 2 ≢ 1)
 
 abbrev μ-loop : tie.MeasureT-loop
-μ-loop packed n w p₀ p = 18 - p
+μ-loop packed n w found₀ p₀ found p = 18 - p
 
 -- The packed form has the byte.
 has-byte : (c : tie.In-loop Inv-loop μ-loop) → let a = c .before .before .args in
@@ -29,7 +30,7 @@ add-w : tie.Need-add-w Inv-loop μ-loop
 add-w c = search needs
 
 loop-holds : tie.Need-loop-holds Inv-loop μ-loop
-loop-holds c = search needs
+loop-holds c = (search needs, λ e. absurd (true≢false (sym e)), λ e q h. absurd (omega arith))
 
 mul-if1 : tie.Need-mul-if1 Inv-loop μ-loop
 mul-if1 c = omega (arith, has-byte c, c .before .before .pre .few, c .before .before .pre .size)
@@ -43,14 +44,6 @@ add-if1-2 c = omega (arith, has-byte c, c .before .before .pre .few, c .before .
 shared-slice-read-if1 : tie.Need-shared-slice-read-if1 Inv-loop μ-loop
 shared-slice-read-if1 c = omega (arith, has-byte (c .before))
 
-returns : tie.Need-returns Inv-loop μ-loop
-returns c =
-    let i = c .before .before in
-    record {
-      some = λ e. record { place = i .before .loop .p; inside = i .loop-test .taken; bit = c .if1 .taken };
-      none = λ e. absurd (true≢false e);
-    }
-
 add-p : tie.Need-add-p Inv-loop μ-loop
 add-p c = search needs
 
@@ -59,15 +52,25 @@ loop-less c = search needs
 
 loop-again : tie.Need-loop-again Inv-loop μ-loop
 loop-again c =
-    let l = c .before .before .before .loop in
-    (search needs, below-more _ _ (l .inv .1) (c .if1 .left))
+    let i = c .before .before in
+    let l = i .before .loop in (
+      search needs,
+      ⊎-elim
+          (λ w e. record { place = l .p; inside = i .loop-test .taken; bit = w .0 .taken })
+          (λ w e. l .inv .1 (sym (w .1) ∙ e))
+          (c .if1 .came),
+      ⊎-elim
+          (λ w e. absurd (true≢false (sym (w .1) ∙ e)))
+          (λ w e. below-more _ _ (l .inv .2 (sym (w .1) ∙ e)) (w .0 .left))
+          (c .if1 .came),
+    )
 
-returns-2 : tie.Need-returns-2 Inv-loop μ-loop
-returns-2 c =
+returns : tie.Need-returns Inv-loop μ-loop
+returns c =
     let l = c .before .loop in
     record {
-      some = λ e. absurd (true≢false (sym e));
-      none = λ e s. l .inv .1 (s .place) (omega (arith, s .inside)) (s .bit);
+      some = l .inv .1;
+      none = λ e s. l .inv .2 e (s .place) (omega (arith, s .inside)) (s .bit);
     }
 
 pub padding-set-spec : {M : Type 1} → statement M
@@ -82,8 +85,7 @@ padding-set-spec =
     add-if1
     add-if1-2
     shared-slice-read-if1
-    returns
     add-p
     loop-less
     loop-again
-    returns-2)
+    returns)

@@ -1,6 +1,6 @@
--- The cell is turned over if it is 1, and stays if it is 0.
+-- The cell is a bit, and is added to itself.
 use mathlib.Core.Path.{_≡_, ap, _∙_}
-use Prim.Native.Nat.{ℕ, _+_, _*_}
+use Prim.Native.Nat.{ℕ, _+_, _*_, _<_}
 use native.Mathlib.Omega.{arith}
 use denote.Ref.{now}
 use lib.ListN.{getD}
@@ -8,18 +8,22 @@ use Rattle.code.specs.Record.{track-length}
 use Rattle.code.specs.Image.{cells}
 use Rattle.code.specs.Sizes.{shape}
 use Rattle.syndrome.specs.Syndrome.{set-of, index}
-use Rattle.solver.proofs.Settling.{settled-turned, settled-same}
+use Rattle.solver.proofs.Settling.{settled-added}
 use borrow.Author.Needs.{needs}
 use Rattle.solver.proofs.clear_cell.Statement.{statement}
 use Rattle.solver.proofs.clear_cell.Tie as tie
 
--- What was read is the cell.
-read : (c : tie.After-cell-on-track) →
-    let a = c .before .before .before .before .before .before .before .args in
-    c .cell-on-track .result ≡ cells (shape (a .z)) (now (a .out)) (set-of (a .s)) (a .t) (a .p)
+abbrev start : tie.After-cell-on-track → tie.Start
+start c = c .before .before .before .before .before .before .before
+
+-- What was read is the cell, a bit.
+read : (c : tie.After-cell-on-track) → let a = start c .args in c .cell-on-track .result ≡ cells (shape (a .z)) (now (a .out)) (set-of (a .s)) (a .t) (a .p)
 read c =
-    let a = c .before .before .before .before .before .before .before .args in
+    let a = start c .args in
     c .cell-on-track .ensures ∙ ap (λ (k : ℕ). getD (now (a .out)) (k * track-length (shape (a .z)) + a .p) 0) (c .before .before .track-number .ensures .is)
+
+bit : (c : tie.After-cell-on-track) → c .cell-on-track .result < 2
+bit c = let a = start c .args in omega (arith, read c, start c .pre .0 .image .bits (index (a .z) (a .s) (a .t) (a .p)))
 
 add-l : tie.Need-add-l
 add-l c = search needs
@@ -39,8 +43,11 @@ mul-start c = search needs
 cell-on-track-requires : tie.Need-cell-on-track-requires
 cell-on-track-requires c κs = search needs
 
-flip-requires : tie.Need-flip-requires
-flip-requires c κs = search needs
+add-any-requires : tie.Need-add-any-requires
+add-any-requires c κs =
+    let r = c .before .before in
+    let h = start r .pre in
+    (h .0, (h .1, bit r))
 
 same-length : tie.Need-same-length
 same-length c = search needs
@@ -50,15 +57,9 @@ same-length-2 c = search needs
 
 returns : tie.Need-returns
 returns c =
-    let s = c .before .before .before .before .before .before .before .before .before .before .before .before .before .before .before in
-    let bit = s .pre .0 .image .bits (index (s .args .z) (s .args .s) (s .args .t) (s .args .p)) in
-    settled-turned _ _ (s .pre .0) (s .pre .1) (omega (arith, read (c .before .before .before .before .before .before .before .before), bit, c .before .before .before .before .before .before .before .if1 .taken)) (c .before .before .before .before .flip .ensures)
-
-same-length-3 : tie.Need-same-length-3
-same-length-3 c = search needs
-
-returns-2 : tie.Need-returns-2
-returns-2 c = let s = c .before .before .before .before .before .before .before .before in settled-same _ _ (s .pre .0) (omega (arith, read (c .before), c .if1 .left))
+    let r = c .before .before .before .before .before .before .before in
+    let h = start r .pre in
+    settled-added _ _ (rw (read r) at (bit r)) (h .0) (h .1) (rw (read r) at (c .before .before .before .before .add-any .ensures))
 
 pub clear-cell-spec : {M : Type 1} → statement M
 clear-cell-spec =
@@ -70,9 +71,7 @@ clear-cell-spec =
     track-number-requires
     mul-start
     cell-on-track-requires
-    flip-requires
+    add-any-requires
     same-length
     same-length-2
-    returns
-    same-length-3
-    returns-2)
+    returns)

@@ -1,4 +1,4 @@
--- The cell is turned over if the sum is 1, and stays if it is 0.
+-- The sum is a bit, and is added to the cell.
 use Prim.Native.Nat.{_+_, _*_, _<_}
 use native.Mathlib.Omega.{arith}
 use denote.Ref.{now}
@@ -6,7 +6,7 @@ use lib.Arith.{digits-lt}
 use lib.ListN.{length, getD}
 use Rattle.code.specs.Record.{track-length}
 use Rattle.code.specs.Sizes.{shape}
-use Rattle.solver.proofs.Settling.{settled-turned, settled-same}
+use Rattle.solver.proofs.Settling.{settled-added}
 use borrow.Author.Needs.{needs}
 use Rattle.solver.proofs.mend.Statement.{statement}
 use Rattle.solver.proofs.mend.Tie as tie
@@ -33,11 +33,11 @@ mul-i c = omega (arith, inside (c .before .before .before .before))
 add-i : tie.Need-add-i
 add-i c = omega (arith, inside (c .before .before .before .before))
 
-slice-read-if1 : tie.Need-slice-read-if1
-slice-read-if1 c = inside (c .before .before .before .before .before)
+slice-read-w : tie.Need-slice-read-w
+slice-read-w c = inside (c .before .before .before .before .before)
 
-flip-requires : tie.Need-flip-requires
-flip-requires c κs = search needs
+add-any-requires : tie.Need-add-any-requires
+add-any-requires c κs = let s = c .before .before .before .before .before .before .before in (s .pre .0, (s .pre .1 .0, bit s))
 
 same-length : tie.Need-same-length
 same-length c = search needs
@@ -48,13 +48,8 @@ same-length-2 c = search needs
 returns : tie.Need-returns
 returns c =
     let r = c .before .before .before .before in
-    let s = r .before .before .before .before .before .before .before .before .before in
-    settled-turned _ _ (s .pre .0) (s .pre .1 .0) (omega (arith, bit s, r .before .before .before .if1 .taken)) (r .flip .ensures)
-
-returns-2 : tie.Need-returns-2
-returns-2 c =
-    let s = c .before .before .before .before .before .before in
-    settled-same _ _ (s .pre .0) (omega (arith, c .if1 .left))
+    let s = r .before .before .before .before .before .before .before .before in
+    settled-added _ _ (bit s) (s .pre .0) (s .pre .1 .0) (r .add-any .ensures)
 
 pub mend-spec : {M : Type 1} → statement M
 mend-spec =
@@ -65,9 +60,8 @@ mend-spec =
     add-l-3
     mul-i
     add-i
-    slice-read-if1
-    flip-requires
+    slice-read-w
+    add-any-requires
     same-length
     same-length-2
-    returns
-    returns-2)
+    returns)

@@ -29,8 +29,8 @@ same-length-2 c = search needs
 returns : tie.Need-returns
 returns c = found _ _ _ _ _ (c .before .before .before .before .before .before .before .before .before .before .before .before .before .before .before .before .before .before .before .before .before .before .before .before .pre .0) _ _ _ _ (c .before .before .before .before .before .before .before .before .before .before .before .before .before .before .before .before .before .copy-known .ensures) (c .before .before .before .before .before .before .before .solve .ensures) (c .before .before .if1 .taken) _ (c .answer-of .ensures)
 
-copy-into-requires : tie.Need-copy-into-requires
-copy-into-requires c κs = search needs
+copy-long-requires : tie.Need-copy-long-requires
+copy-long-requires c κs = search needs
 
 plain-answer-requires : tie.Need-plain-answer-requires
 plain-answer-requires c κs = search needs
@@ -42,7 +42,7 @@ same-length-4 : tie.Need-same-length-4
 same-length-4 c = search needs
 
 returns-2 : tie.Need-returns-2
-returns-2 c = none-found _ _ _ _ _ (c .before .before .before .before .before .before .before .before .before .before .before .before .before .before .before .before .before .before .before .before .before .before .before .before .before .before .before .pre .0) _ _ _ _ (c .before .before .before .before .before .before .before .before .before .before .before .before .before .before .before .before .before .before .before .before .copy-known .ensures) (c .before .before .before .before .before .before .before .before .before .before .solve .ensures) (c .before .before .before .before .before .if1 .left) _ (c .before .before .before .copy-into .ensures) _ (c .plain-answer .ensures)
+returns-2 c = none-found _ _ _ _ _ (c .before .before .before .before .before .before .before .before .before .before .before .before .before .before .before .before .before .before .before .before .before .before .before .before .before .before .before .pre .0) _ _ _ _ (c .before .before .before .before .before .before .before .before .before .before .before .before .before .before .before .before .before .before .before .before .copy-known .ensures) (c .before .before .before .before .before .before .before .before .before .before .solve .ensures) (c .before .before .before .before .before .if1 .left) _ (c .before .before .before .copy-long .ensures) _ (c .plain-answer .ensures)
 
 pub repair-by-spec : {M : Type 1} → statement M
 repair-by-spec =
@@ -55,7 +55,7 @@ repair-by-spec =
     same-length
     same-length-2
     returns
-    copy-into-requires
+    copy-long-requires
     plain-answer-requires
     same-length-3
     same-length-4

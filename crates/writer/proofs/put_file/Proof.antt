@@ -38,17 +38,17 @@ put-directory-requires c κs =
     let s = w .before .before .before .before in
     (s .pre .0, (s .pre .1 .0, (second-room (s .args .count) (now (s .args .entries)) (now (s .args .out)) (s .pre .1 .1 .0) _ (w .put-two .ensures), s .pre .1 .1 .1)))
 
-sub-copy-into : tie.Need-sub-copy-into
-sub-copy-into c = search needs
+sub-copy-long : tie.Need-sub-copy-long
+sub-copy-long c = search needs
 
-part-copy-into-start : tie.Need-part-copy-into-start
-part-copy-into-start c = search needs
+part-copy-long-start : tie.Need-part-copy-long-start
+part-copy-long-start c = search needs
 
-part-copy-into-end : tie.Need-part-copy-into-end
-part-copy-into-end c = search needs
+part-copy-long-end : tie.Need-part-copy-long-end
+part-copy-long-end c = search needs
 
-copy-into-requires : tie.Need-copy-into-requires
-copy-into-requires c κs = search needs
+copy-long-requires : tie.Need-copy-long-requires
+copy-long-requires c κs = search needs
 
 same-length : tie.Need-same-length
 same-length c = search needs
@@ -58,7 +58,7 @@ returns c =
     let d = c .before .before .before .before .before .before in
     let w = d .before .before .before .before in
     let s = w .before .before .before .before in
-    file-put (s .args .count) (now (s .args .entries)) (now (s .args .out)) (s .pre .1 .1 .0) (s .pre .1 .1 .1) _ _ (w .put-two .ensures) (d .put-directory .ensures) _ (c .before .before .copy-into .ensures)
+    file-put (s .args .count) (now (s .args .entries)) (now (s .args .out)) (s .pre .1 .1 .0) (s .pre .1 .1 .1) _ _ (w .put-two .ensures) (d .put-directory .ensures) _ (c .before .before .copy-long .ensures)
 
 pub put-file-spec : {M : Type 1} → statement M
 put-file-spec =
@@ -74,9 +74,9 @@ put-file-spec =
     part-put-directory-start
     part-put-directory-end
     put-directory-requires
-    sub-copy-into
-    part-copy-into-start
-    part-copy-into-end
-    copy-into-requires
+    sub-copy-long
+    part-copy-long-start
+    part-copy-long-end
+    copy-long-requires
     same-length
     returns)
