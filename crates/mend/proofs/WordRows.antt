@@ -2,19 +2,26 @@
 use mathlib.Core.Path.{_≡_, refl, sym, ap, _∙_, fun-ext}
 use mathlib.Core.Logic.{by-cases}
 use mathlib.Core.List.{List}
-use Prim.Native.Nat.{ℕ, zero, suc, _+_, _*_, _/_, _%_, _<_, _≤_}
+use Prim.Native.Nat.{ℕ, zero, suc, _+_, _*_, _-_, _/_, _%_, _^_, _<_, _≤_}
 use native.Mathlib.Decide.{decLt, ℕ-discrete}
 use native.Mathlib.Omega.{arith}
 use lib.Bits.{bitOr, or-add-and, xor-add-and}
 use lib.ListN.{length, getD, set, length-set}
 use lib.Seq.{getD-set-same, getD-set-other}
-use Rattle.words.specs.Words.{bit, bit-at}
-use Rattle.words.proofs.Bit.{bit-zero}
+use Rattle.code.specs.Record.{TrackSet, A, B, track-length, diagonal, vertical}
+use Rattle.code.specs.Image.{cells}
+use Rattle.code.specs.Sizes.{shape}
+use Rattle.code.specs.declared.Sizes.{Sizes}
+use Rattle.sums.specs.Run.{rule, RunStart}
+use Rattle.sums.specs.Edge.{RunSums}
+use Rattle.words.specs.Words.{bit, bit-at, First}
+use Rattle.words.proofs.Bit.{bit-zero, bit-shr}
 use Rattle.forms.proofs.Shifts.{cut-out}
-use Rattle.track.proofs.Rows.{row-end, part, part-length, part-row}
-use Rattle.errors.specs.Rows.{cell, Rows}
+use Rattle.track.specs.Track.{row}
+use Rattle.track.proofs.Rows.{row-end, part, part-row}
+use Rattle.errors.specs.Rows.{cell, Rows, diagonals, verticals, Put}
 use Rattle.errors.proofs.Cells.{cell-index}
-use Rattle.mend.specs.Mend.{RowLoaded, RowsOf, StartOf}
+use Rattle.mend.specs.Mend.{RunLoaded, SumsIn, StartOf}
 
 -- ## Cells
 
@@ -40,61 +47,71 @@ row-same xs ys q e = fun-ext (λ m. by-cases (decLt m 2112) (near m) (far m))
 
 -- ## Loading
 
--- The first n words of row r have the cells of a stretch, and all other words stay.
-pub record Loading (stretch before : List ℕ) (r n : ℕ) (now : List ℕ) : Type 0 where
-  pub size : length now ≡ length before
-  pub words : (i k m : ℕ) → i < n → k < 64 → i * 64 + k ≡ m → bit (getD now (34 * r + 1 + i) 0) k ≡ getD stretch m 0
-  pub early : (j : ℕ) → j < 34 * r + 1 → getD now j 0 ≡ getD before j 0
-  pub later : (j : ℕ) → 34 * r + 1 + n ≤ j → getD now j 0 ≡ getD before j 0
+-- At the start no row has its word; then the next one has.
+pub run-none : (run : List ℕ) (i n k : ℕ) (rows : List ℕ) → Rows 4 rows → RunLoaded run i n k 0 rows rows
+run-none run i n k rows h = record { rows = h; here = λ r j b. absurd (omega arith); early = λ r m b c. refl }
 
-module _ (stretch before : List ℕ) (r : ℕ) where
-  -- At the start none is loaded.
-  pub loading-none : Loading stretch before r 0 before
-  loading-none = record { size = refl; words = λ i k m h. absurd (omega arith); early = λ j h. refl; later = λ j h. refl }
-
-  -- The next word is loaded.
-  pub loading-more : (now : List ℕ) (n w : ℕ) → Loading stretch before r n now → 34 * r + 1 + n < length before →
-      ((k m : ℕ) → k < 64 → n * 64 + k ≡ m → bit w k ≡ getD stretch m 0) → Loading stretch before r (n + 1) (set now (34 * r + 1 + n) w)
-  loading-more now n w l room is = record {
-    size = simp length-set (l .size);
-    words = λ i k m h b e. go i k m h b e (ℕ-discrete i n);
-    early = λ j h. getD-set-other now (34 * r + 1 + n) j w 0 (omega arith) ∙ l .early j h;
-    later = λ j h. getD-set-other now (34 * r + 1 + n) j w 0 (omega arith) ∙ l .later j (omega arith);
-  }
-    where
-      go : (i k m : ℕ) → i < n + 1 → k < 64 → i * 64 + k ≡ m → Dec (i ≡ n) → bit (getD (set now (34 * r + 1 + n) w) (34 * r + 1 + i) 0) k ≡ getD stretch m 0
-      go i k m h b e (yes s) =
-          rw s (ap (λ x. bit x k) (getD-set-same now (34 * r + 1 + n) w 0 (omega (arith, l .size))) ∙ is k m b (omega arith))
-      go i k m h b e (no d) = ap (λ x. bit x k) (getD-set-other now (34 * r + 1 + n) (34 * r + 1 + i) w 0 (omega arith)) ∙ l .words i k m (omega arith) b e
-
-  -- At the end the row is loaded.
-  pub loaded : (after : List ℕ) (n : ℕ) → Loading stretch before r n after → Rows 4 before → n ≤ 33 → length stretch ≤ 64 * n →
-      RowLoaded stretch before r after
-  loaded after n l rows few all = record {
-    rows = record {
-      size = l .size ∙ rows .size;
-      lead = λ q h. by-cases (decLt r q) (λ b. l .later (34 * q) (omega arith)) (λ b. l .early (34 * q) (omega arith)) ∙ rows .lead q h;
-    };
-    here = λ m h. cell-word after r (m / 64) (m % 64) m (omega arith) (omega arith) (omega arith) ∙ l .words (m / 64) (m % 64) m (omega arith) (omega arith) (omega arith);
-    there = λ q h d. row-same after before q (λ i b. by-cases (decLt r q)
-        (λ c. l .later (34 * q + 1 + i) (omega arith))
-        (λ c. l .early (34 * q + 1 + i) (omega arith)));
-  }
-
--- Of four rows none is loaded at the start, and then the next one.
-pub rows-none : (l : ℕ) (syn words : List ℕ) → Rows 4 words → RowsOf l 0 syn words
-rows-none l syn words h = record { rows = h; cells = λ r m b. absurd (omega arith) }
-
-pub rows-more : (l r : ℕ) (syn now after : List ℕ) → RowsOf l r syn now → length syn ≡ 4 * l → r < 4 →
-    RowLoaded (part l syn r) now r after → RowsOf l (r + 1) syn after
-rows-more l r syn now after w size h p = record { rows = p .rows; cells = λ q m b c. go q m b c (ℕ-discrete q r) }
+pub run-more : (run : List ℕ) (i n k q w : ℕ) (before now after : List ℕ) → RunLoaded run i n k q before now → q < 4 → Put 4 now q i w after →
+    ((j : ℕ) → k + j < 64 → k + j < n → bit w j ≡ row 64 run q (k + j)) → RunLoaded run i n k (q + 1) before after
+run-more run i n k q w before now after l few p is = record {
+  rows = p .rows;
+  here = λ r j h b c. here r j h b c (ℕ-discrete r q);
+  early = λ r m h b. early r m h b (ℕ-discrete r q) ∙ l .early r m h b;
+}
   where
-    room : r * l + l ≤ length syn
-    room = omega (arith, row-end l r 4 h)
+    here : (r j : ℕ) → r < q + 1 → k + j < 64 → k + j < n → Dec (r ≡ q) → cell after r (64 * i + j) ≡ row 64 run r (k + j)
+    here r j h b c (yes e) = rw e (p .here j (omega arith) ∙ is j b c)
+    here r j h b c (no d) = ap (λ f. f (64 * i + j)) (p .there r (omega arith) d) ∙ l .here r j (omega arith) b c
 
-    go : (q m : ℕ) → q < r + 1 → m < l → Dec (q ≡ r) → cell after q m ≡ getD syn (q * l + m) 0
-    go q m b c (yes s) = rw s (p .here m (omega (arith, part-length l syn r room)) ∙ part-row l syn r room m c)
-    go q m b c (no d) = ap (λ f. f m) (p .there q (omega arith) d) ∙ w .cells q m (omega arith) c
+    early : (r m : ℕ) → r < 4 → m < 64 * i → Dec (r ≡ q) → cell after r m ≡ cell now r m
+    early r m h b (yes e) = rw e (p .early m b)
+    early r m h b (no d) = ap (λ f. f m) (p .there r h d)
+
+-- A row's 64 cells as a word, of which the first n are kept and those before k dropped.
+pub run-word : (run : List ℕ) (n k q v x : ℕ) → length run ≡ 256 → q < 4 → ((j m : ℕ) → j < 64 → 0 * 64 + j ≡ m → bit v j ≡ getD (part 64 run q) m 0) → First v n x →
+    (j : ℕ) → k + j < 64 → k + j < n → bit (x / 2 ^ k) j ≡ row 64 run q (k + j)
+run-word run n k q v x size h is first j b c =
+    bit-shr x k j ∙ first .cells (k + j) c ∙ is (k + j) (k + j) b (omega arith) ∙ part-row 64 run q (omega (arith, row-end 64 q 4 h)) (k + j) b
+
+-- ## Sums
+
+-- The rows have the sums of an image before position n.
+pub record SumsTo (z : Sizes) (image : List ℕ) (n : ℕ) (rows : List ℕ) : Type 0 where
+  pub rows-are : Rows 4 rows
+  pub sums : (r m : ℕ) → r < 4 → m < n → m < track-length (shape z) → cell rows r m ≡ rule (shape z) (cells (shape z) image) r m % 2
+
+pub sums-none : (z : Sizes) (image rows : List ℕ) → Rows 4 rows → SumsTo z image 0 rows
+sums-none z image rows h = record { rows-are = h; sums = λ r m b c. absurd (omega arith) }
+
+-- One run more.
+pub sums-more : (z : Sizes) (image run : List ℕ) (i p : ℕ) (before after : List ℕ) → SumsTo z image (64 * i) before → RunStart (track-length (shape z)) (64 * i) p →
+    RunSums z image p run → RunLoaded run i (track-length (shape z) - p) (64 * i - p) 4 before after → SumsTo z image (64 * (i + 1)) after
+sums-more z image run i p before after s at run-is l = record { rows-are = l .rows; sums = λ r m h b c. by-cases (decLt m (64 * i)) (old r m h c) (new r m h b c) }
+  where
+    old : (r m : ℕ) → r < 4 → m < track-length (shape z) → m < 64 * i → cell after r m ≡ rule (shape z) (cells (shape z) image) r m % 2
+    old r m h c e = l .early r m h e ∙ s .sums r m h e c
+
+    new : (r m : ℕ) → r < 4 → m < 64 * (i + 1) → m < track-length (shape z) → ¬ (m < 64 * i) → cell after r m ≡ rule (shape z) (cells (shape z) image) r m % 2
+    new r m h b c e =
+        let starts : p ≤ 64 * i = at .starts in
+        let near : m < p + 64 = at .reaches m (omega arith) c in
+        let j : 64 * i + (m - 64 * i) ≡ m = omega arith in
+        let k : 64 * i - p + (m - 64 * i) ≡ m - p = omega arith in
+        let q : p + (m - p) ≡ m = omega arith in
+        ap (cell after r) (sym j) ∙ l .here r (m - 64 * i) h (omega arith) (omega arith) ∙ ap (row 64 run r) k
+        ∙ (run-is .sums r (m - p) h (omega arith) (omega arith) ∙ ap (λ v. rule (shape z) (cells (shape z) image) r v % 2) q)
+
+-- When all positions are done, the rows have the sums.
+pub sums-in : (z : Sizes) (image : List ℕ) (n : ℕ) (rows : List ℕ) → SumsTo z image n rows → track-length (shape z) ≤ n → SumsIn z image rows
+sums-in z image n rows s all = record { rows = s .rows-are; sums = record { diagonals = diagonal-in; verticals = vertical-in } }
+  where
+    diagonal-in : (d : TrackSet) (m : ℕ) → m < track-length (shape z) → diagonals rows d m ≡ diagonal (shape z) (cells (shape z) image) d m % 2
+    diagonal-in A m h = s .sums 0 m (omega arith) (omega arith) h
+    diagonal-in B m h = s .sums 1 m (omega arith) (omega arith) h
+
+    vertical-in : (c : TrackSet) (m : ℕ) → m < track-length (shape z) → verticals rows c m ≡ vertical (shape z) (cells (shape z) image) c m % 2
+    vertical-in A m h = s .sums 2 m (omega arith) (omega arith) h
+    vertical-in B m h = s .sums 3 m (omega arith) (omega arith) h
 
 -- ## First words
 

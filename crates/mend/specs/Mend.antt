@@ -11,21 +11,23 @@ use Rattle.code.specs.Flags.{TrackFlags}
 use Rattle.code.specs.Sizes.{shape}
 use Rattle.code.specs.declared.Sizes.{Sizes}
 use Rattle.code.proofs.Linear.{plus}
+use Rattle.track.specs.Track.{row}
 use Rattle.syndrome.specs.Syndrome.{Image}
-use Rattle.errors.specs.Rows.{cell, Rows}
+use Rattle.forms.specs.Found.{Sums}
+use Rattle.errors.specs.Rows.{cell, Rows, diagonals, verticals}
 
 -- ## Sums
 
--- Row r has the cells of a stretch, and the other rows stay.
-pub record RowLoaded (stretch before : List ℕ) (r : ℕ) (after : List ℕ) : Type 0 where
+-- Word i of the first q rows has the cells of four rows of 64 from k on, as far as they are before n, and no earlier cell is changed.
+pub record RunLoaded (run : List ℕ) (i n k q : ℕ) (before after : List ℕ) : Type 0 where
   pub rows : Rows 4 after
-  pub here : (m : ℕ) → m < length stretch → cell after r m ≡ getD stretch m 0
-  pub there : (q : ℕ) → q < 4 → q ≢ r → cell after q ≡ cell before q
+  pub here : (r j : ℕ) → r < q → k + j < 64 → k + j < n → cell after r (64 * i + j) ≡ row 64 run r (k + j)
+  pub early : (r m : ℕ) → r < 4 → m < 64 * i → cell after r m ≡ cell before r m
 
--- Four rows of words have the cells of the first n of four rows of l bytes.
-pub record RowsOf (l n : ℕ) (syn words : List ℕ) : Type 0 where
+-- Four rows of words have the sums of an image.
+pub record SumsIn (z : Sizes) (image words : List ℕ) : Type 0 where
   pub rows : Rows 4 words
-  pub cells : (r m : ℕ) → r < n → m < l → cell words r m ≡ getD syn (r * l + m) 0
+  pub sums : Sums (shape z) (cells (shape z) image) (diagonals words) (verticals words)
 
 -- A word past which the first sum that is not 0 comes, of l; or the last word and more, where all are 0.
 pub record StartOf (l : ℕ) (rows : List ℕ) (start : ℕ) : Type 0 where

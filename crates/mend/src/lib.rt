@@ -16,8 +16,8 @@ ghost use Rattle.plans.specs.Plans.{room, Sized};
 ghost use Rattle.forms.specs.Found.{errors};
 ghost use Rattle.errors.specs.Rows.{cell, Rows};
 ghost use Rattle.mend.specs.Mend.{
-  RowLoaded,
-  RowsOf,
+  RunLoaded,
+  SumsIn,
   StartOf,
   RowAdded,
   Added,
@@ -27,37 +27,44 @@ ghost use Rattle.mend.specs.Mend.{
 
 // ---- Sums
 
-// Loads a stretch of cells into row r of four rows.
-fn load_row(stretch: &[u8], rows: &mut [u64], r: usize)
-    requires { ⌜ length (now stretch) ≤ 2112 ⌝ }
-    requires { ⌜ Bits (now stretch) ⌝ }
+// Loads word i of four rows from four rows of 64 cells: those from k on, as far as they are before n.
+fn load_run(run: &[u8], rows: &mut [u64], i: usize, n: usize, k: usize)
+    requires { ⌜ length (now run) ≡ 256 ⌝ }
+    requires { ⌜ Bits (now run) ⌝ }
     requires { ⌜ Rows 4 (now rows) ⌝ }
-    requires { ⌜ r < 4 ⌝ }
-    ensures { λ _. ⌜ RowLoaded (now (stretch .entry)) (now (rows .entry)) r (now (rows .exit)) ⌝ }
-{
-    let first = 34 * r + 1;
-    let count = (stretch.len() + 63) / 64;
-    let mut i = 0;
-    while i < count {
-        rows[first + i] = words::word_of(stretch, i);
-        i += 1;
-    }
-}
-
-// Loads four rows of l sums.
-pub fn load_rows(syn: &[u8], l: usize, rows: &mut [u64])
-    requires { ⌜ length (now syn) ≡ 4 * l ⌝ }
-    requires { ⌜ l ≤ 2112 ⌝ }
-    requires { ⌜ Bits (now syn) ⌝ }
-    requires { ⌜ Rows 4 (now rows) ⌝ }
-    ensures { λ _. ⌜ RowsOf l 4 (now (syn .entry)) (now (rows .exit)) ⌝ }
+    requires { ⌜ i < 33 ⌝ }
+    requires { ⌜ k < 64 ⌝ }
+    ensures { λ _. ⌜ RunLoaded (now (run .entry)) i n k 4 (now (rows .entry)) (now (rows .exit)) ⌝ }
 {
     let mut r = 0;
     while r < 4 {
-        let from = r * l;
-        let to = from + l;
-        load_row(&syn[from..to], rows, r);
+        let from = r * 64;
+        let to = from + 64;
+        let w = words::first_cells(words::word_of(&run[from..to], 0), n);
+        rows[34 * r + 1 + i] = w >> k;
         r += 1;
+    }
+}
+
+// Loads the sums of an image, 64 positions at a time.
+pub fn load_sums(image: &[u8], z: Sizes, rows: &mut [u64])
+    requires { ⌜ Small z ⌝ }
+    requires { ⌜ Image (shape z) (now image) ⌝ }
+    requires { ⌜ Rows 4 (now rows) ⌝ }
+    ensures { λ _. ⌜ SumsIn z (now (image .entry)) (now (rows .exit)) ⌝ }
+{
+    let lag = z.t1 + z.t2 + 1;
+    let l = z.positions + lag;
+    let mut room = [0u8; 1710];
+    let padded = &mut room[..(lag + 3) * (80 + lag)];
+    sums::pad(padded, image, z);
+    let mut run = [0u8; 256];
+    let mut i = 0;
+    while 64 * i < l {
+        let p = sums::run_start(l, 64 * i);
+        sums::sum_rows(&mut run, image, padded, z, p);
+        load_run(&run, rows, i, l - p, 64 * i - p);
+        i += 1;
     }
 }
 

@@ -10,30 +10,10 @@ use Rattle.code.specs.Flags.{TrackFlags}
 use Rattle.code.specs.Sizes.{shape, Small}
 use Rattle.code.specs.declared.Sizes.{Sizes}
 use Rattle.code.proofs.Cell.{tail-within}
-use Rattle.syndrome.specs.Syndrome.{row-of, Holds}
 use Rattle.forms.specs.Found.{Tails}
-use Rattle.errors.specs.Rows.{diagonals, verticals}
-use Rattle.mend.specs.Mend.{RowsOf, TailsBut, TailsCleared}
+use Rattle.mend.specs.Mend.{SumsIn, TailsBut, TailsCleared}
 use Rattle.repair.specs.declared.Needs.{Needs}
-use Rattle.repair.specs.Steps.{SumsIn, need-of, Prepared}
-
--- Rows of words have the sums that rows of bytes have.
-pub sums-in : (z : Sizes) (out syn words : List ℕ) → Holds (shape z) (cells (shape z) out) syn → RowsOf (track-length (shape z)) 4 syn words → SumsIn z out words
-sums-in z out syn words h w = record {
-  rows = w .rows;
-  sums = record {
-    diagonals = λ d m l. w .cells (row-of d) m (row-small d) l ∙ h .diagonals d m l;
-    verticals = λ c m l. w .cells (2 + row-of c) m (vertical-small c) l ∙ h .verticals c m l;
-  };
-}
-  where
-    row-small : (d : TrackSet) → row-of d < 4
-    row-small A = omega arith
-    row-small B = omega arith
-
-    vertical-small : (c : TrackSet) → 2 + row-of c < 4
-    vertical-small A = omega arith
-    vertical-small B = omega arith
+use Rattle.repair.specs.Steps.{need-of, Prepared}
 
 -- The tails of A are cleared, then those of B.
 module _ (z : Sizes) (f : TrackFlags) (image copy mid out words : List ℕ) (a b : ℕ) (small : Small z) (is-copy : copy ≡ image)

@@ -16,18 +16,13 @@ use Rattle.syndrome.specs.Syndrome.{row-of, Image}
 use Rattle.solver.specs.Solver.{marked}
 use Rattle.flags.specs.Marks.{ReadImage}
 use Rattle.plans.specs.declared.Form.{Form}
-use Rattle.forms.specs.Found.{Sums, Tails, errors}
-use Rattle.errors.specs.Rows.{cell, Rows, diagonals, verticals}
+use Rattle.forms.specs.Found.{Tails, errors}
+use Rattle.errors.specs.Rows.{cell}
 use Rattle.errors.specs.Steps.{Found}
-use Rattle.mend.specs.Mend.{Added, TailsBut}
+use Rattle.mend.specs.Mend.{SumsIn, Added, TailsBut}
 use Rattle.repair.specs.declared.Needs.{Needs}
 
 -- ## Working copies
-
--- Four rows of words have the sums of a working copy.
-pub record SumsIn (z : Sizes) (out words : List ℕ) : Type 0 where
-  pub rows : Rows 4 words
-  pub sums : Sums (shape z) (cells (shape z) out) (diagonals words) (verticals words)
 
 abbrev pub need-of : Needs → TrackSet → ℕ
 need-of need A = need .a

@@ -6,9 +6,9 @@ use code::Sizes;
 use code::plain_answer;
 use plans::Form;
 ghost use mathlib.Core.Path.{_≡_};
-ghost use Prim.Native.Nat.{_*_, _≤_};
+ghost use Prim.Native.Nat.{_≤_};
 ghost use lib.ListN.{length};
-ghost use Rattle.code.specs.Record.{track-length, base};
+ghost use Rattle.code.specs.Record.{base};
 ghost use Rattle.code.specs.Image.{all-tracks, image-size, cells};
 ghost use Rattle.code.specs.Flags.{whole};
 ghost use Rattle.code.specs.Lost.{read-values};
@@ -25,7 +25,7 @@ ghost use Rattle.flags.specs.Marks.{ReadImage};
 ghost use Rattle.changes.specs.Changes.{OnlyMarked};
 ghost use Rattle.plans.specs.Plans.{Sized};
 ghost use Rattle.errors.specs.Rows.{Rows};
-ghost use Rattle.repair.specs.Steps.{names, Given, SumsIn, Prepared, MadeGood};
+ghost use Rattle.repair.specs.Steps.{names, Given, Prepared, MadeGood};
 
 // ---- Checks
 
@@ -62,36 +62,6 @@ pub struct Needs {
     pub b: usize,
 }
 
-// Loads the sums of a working copy, by way of four rows of bytes.
-fn load_by(z: Sizes, out: &[u8], syn: &mut [u8], rows: &mut [u64])
-    requires { ⌜ Small z ⌝ }
-    requires { ⌜ Image (shape z) (now out) ⌝ }
-    requires { ⌜ length (now syn) ≡ 4 * track-length (shape z) ⌝ }
-    requires { ⌜ Rows 4 (now rows) ⌝ }
-    ensures { λ _. ⌜ SumsIn z (now (out .entry)) (now (rows .exit)) ⌝ }
-{
-    let l = z.positions + (z.t1 + z.t2 + 1);
-    sums::syndromes(out, z, syn);
-    mend::load_rows(syn, l, rows);
-}
-
-// Loads the sums of a working copy. A short record takes less room.
-fn load_sums(z: Sizes, out: &[u8], rows: &mut [u64])
-    requires { ⌜ Small z ⌝ }
-    requires { ⌜ Image (shape z) (now out) ⌝ }
-    requires { ⌜ Rows 4 (now rows) ⌝ }
-    ensures { λ _. ⌜ SumsIn z (now (out .entry)) (now (rows .exit)) ⌝ }
-{
-    let l = z.positions + (z.t1 + z.t2 + 1);
-    if l <= 143 {
-        let mut room = [0u8; 572];
-        load_by(z, out, &mut room[..4 * l], rows);
-    } else {
-        let mut room = [0u8; 8252];
-        load_by(z, out, &mut room[..4 * l], rows);
-    }
-}
-
 // Makes a working copy of the image, whose tails are 0 where rule 4 makes them so, and loads its sums.
 pub fn prepare(z: Sizes, marks: &[u8], image: &[u8], out: &mut [u8], rows: &mut [u64]) -> Needs
     requires { ⌜ Small z ⌝ }
@@ -104,7 +74,7 @@ pub fn prepare(z: Sizes, marks: &[u8], image: &[u8], out: &mut [u8], rows: &mut 
     track::copy_known(out, image);
     let a = mend::clear_tails(z, marks, out, 0);
     let b = mend::clear_tails(z, marks, out, 1);
-    load_sums(z, out, rows);
+    mend::load_sums(out, z, rows);
     Needs { a, b }
 }
 

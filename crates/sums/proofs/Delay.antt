@@ -3,8 +3,10 @@ use mathlib.Core.Path.{_≡_, sym, ap, _∙_}
 use mathlib.Core.Logic.{by-cases}
 use mathlib.Core.List.{List}
 use Prim.Native.Nat.{ℕ, zero, suc, _+_, _-_, _%_, _<_, _≤_}
+use native.Mathlib.Nat.{mod-lt}
 use native.Mathlib.Decide.{decLt}
 use native.Mathlib.Omega.{arith}
+use lib.ListN.{length, getD, List·getD-eq-default}
 use Rattle.code.specs.Record.{TrackSet, A, B, tracks, lag, track-length, back, sum, diagonal, vertical}
 use Rattle.code.specs.Image.{all-tracks, cells}
 use Rattle.code.specs.Sizes.{shape}
@@ -12,10 +14,10 @@ use Rattle.code.specs.declared.Sizes.{Sizes}
 use Rattle.code.proofs.Sums.{back-at, back-early, sum-same}
 use Rattle.code.proofs.Places.{number-lt}
 use Rattle.track.specs.Track.{row}
-use Rattle.syndrome.specs.Syndrome.{Holds}
+use Rattle.syndrome.proofs.Table.{by-rows}
 use Rattle.sums.specs.Run.{rule, RowsPut, RunStart, Done}
-use Rattle.sums.specs.Edge.{edge, Padded, ShortDone, Summing}
-use Rattle.sums.proofs.Rows.{done-more, done-holds}
+use Rattle.sums.specs.Edge.{edge, Padded, Padding, RunSums, Summing}
+use Rattle.sums.proofs.Rows.{done-more}
 
 module _ (z : Sizes) (image padded : List ℕ) (p : Padded z (all-tracks (shape z)) image padded) (q : ℕ) (first : q < 80) (within : q < track-length (shape z)) where
   -- A padded track, and the image's.
@@ -71,17 +73,36 @@ padded-rule z image padded p (suc zero) q f w = diagonal-same z image padded p q
 padded-rule z image padded p (suc (suc zero)) q f w = vertical-same z image padded p q f w A
 padded-rule z image padded p (suc (suc (suc r))) q f w = vertical-same z image padded p q f w B
 
+-- What is put into four rows of 64 are the sums of the image, where it has the positions.
+pub run-sums : (z : Sizes) (image : List ℕ) (p : ℕ) (f : ℕ → ℕ → ℕ) (from : ℕ) (before rows : List ℕ) → RowsPut 64 0 f from 4 before rows → length before ≡ 256 →
+    ((r k : ℕ) → r < 4 → k < 64 → p + k < track-length (shape z) → f r (from + k) ≡ rule (shape z) (cells (shape z) image) r (p + k)) → RunSums z image p rows
+run-sums z image p f from before rows put size same = record {
+  size = put .size ∙ size;
+  bits = record { bit = λ i. by-cases (decLt i 256) (by-rows 64 (λ i. getD rows i 0 < 2) bit i) (late i) };
+  sums = λ r k h b w. at r k h b ∙ ap (λ v. v % 2) (same r k h b w);
+}
+  where
+    at : (r k : ℕ) → r < 4 → k < 64 → row 64 rows r k ≡ f r (from + k) % 2
+    at r k h b = let e : 0 + k ≡ k = omega arith in rw e at (put .here r k h b)
+
+    bit : (r k : ℕ) → r < 4 → k < 64 → row 64 rows r k < 2
+    bit r k h b = rw (at r k h b) (mod-lt _ (omega arith))
+
+    late : (i : ℕ) → ¬ (i < 256) → getD rows i 0 < 2
+    late i h = rw (List·getD-eq-default rows 0 {n = i} (omega (arith, put .size))) (omega arith)
+
+-- Those of the padded tracks are, near the start.
+pub padded-near : (z : Sizes) (image padded : List ℕ) → Padding z image padded → (p : ℕ) → p < lag (shape z) → (r k : ℕ) → k < 64 → p + k < track-length (shape z) →
+    rule (shape (edge z)) (cells (shape (edge z)) padded) r (lag (shape z) + p + k) ≡ rule (shape z) (cells (shape z) image) r (p + k)
+padded-near z image padded g p h r k b w =
+    let e : lag (shape z) + p + k ≡ lag (shape z) + (p + k) = omega arith in
+    rw e (padded-rule z image padded (g .is-padded) r (p + k) (omega (arith, g .small .t1-small, g .small .t2-small)) w)
+
 -- What `sum_run` gives at the start of the tracks.
 pub padded-done : (z : Sizes) (m p : ℕ) (image padded before after : List ℕ) → Summing z m image padded before → RunStart (track-length (shape z)) m p → p < lag (shape z) →
     RowsPut (track-length (shape z)) p (rule (shape (edge z)) (cells (shape (edge z)) padded)) (lag (shape z) + p) 4 before after →
     Done (shape z) (cells (shape z) image) (m + 64) after
-padded-done z m p image padded before after s at h = done-more (shape z) (cells (shape z) image) m p _ (lag (shape z) + p) before after (s .done) (at .starts) (at .reaches) (at .ends)
-    (λ r k b c.
-    let e : lag (shape z) + p + k ≡ lag (shape z) + (p + k) = omega arith in
-    rw e (padded-rule z image padded (s .is-padded) r (p + k) (omega (arith, s .small .t1-small, s .small .t2-small)) (omega (arith, at .ends))))
-
--- What `sum_short` gives.
-pub short-holds : (z : Sizes) (image padded syn : List ℕ) → Padded z (all-tracks (shape z)) image padded → track-length (shape z) < 64 → ShortDone z padded syn →
-    Holds (shape z) (cells (shape z) image) syn
-short-holds z image padded syn p h s = done-holds (shape z) _ (track-length (shape z)) syn
-    (record { size = s .size; sums = λ r q b _ c. s .sums r q b c ∙ ap (λ v. v % 2) (padded-rule z image padded p r q (omega arith) c) }) (omega arith)
+padded-done z m p image padded before after s at h =
+    let ends : p + 64 ≤ track-length (shape z) = at .ends (s .long) in
+    done-more (shape z) (cells (shape z) image) m p _ (lag (shape z) + p) before after (s .done) (at .starts) (at .reaches) ends
+    (λ r k b c. padded-near z image padded (s .given) p h r k c (omega arith))

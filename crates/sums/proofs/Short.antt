@@ -7,15 +7,16 @@ use native.Mathlib.Decide.{ℕ-discrete}
 use native.Mathlib.Omega.{arith}
 use borrow.Rule.Slice.PartMut.{putMid, mid-len}
 use lib.ListN.{length, take, drop}
-use Rattle.code.specs.Record.{lag, track-length}
+use Rattle.code.specs.Record.{track-length}
 use Rattle.code.specs.Image.{cells}
 use Rattle.code.specs.Sizes.{shape}
 use Rattle.code.specs.declared.Sizes.{Sizes}
 use Rattle.track.specs.Track.{row, Copied}
 use Rattle.track.proofs.Parts.{part-at}
 use Rattle.track.proofs.Rows.{row-end, new-length, new-here, new-there}
-use Rattle.sums.specs.Run.{rule, RowsPut}
-use Rattle.sums.specs.Edge.{edge, ShortDone}
+use Rattle.syndrome.specs.Syndrome.{Holds}
+use Rattle.sums.specs.Edge.{RunSums}
+use Rattle.sums.proofs.Rows.{done-holds}
 
 -- The first n rows of l cells hold the first l cells of the first n rows of 64.
 pub record RowsCopied (l n : ℕ) (rows syn : List ℕ) : Type 0 where
@@ -46,11 +47,8 @@ module _ (l n : ℕ) (rows syn last : List ℕ) (before : RowsCopied l n rows sy
         (λ d. new-there l syn n room last (c .size) r q d b ∙ before .copied r q (omega arith) b);
   }
 
--- When all four rows are copied, they hold the sums of the padded tracks.
-pub short-done : (z : Sizes) (padded blank rows syn : List ℕ) → RowsCopied (track-length (shape z)) 4 rows syn →
-    RowsPut 64 0 (rule (shape (edge z)) (cells (shape (edge z)) padded)) (lag (shape z)) 4 blank rows → track-length (shape z) < 64 →
-    ShortDone z padded syn
-short-done z padded blank rows syn all put short = record {
-  size = all .size;
-  sums = λ r q h b. let e : 0 + q ≡ q = omega arith in all .copied r q h b ∙ rw e at (put .here r q h (omega arith));
-}
+-- When all four rows are copied, they hold the syndromes.
+pub short-holds : (z : Sizes) (image rows syn : List ℕ) → RowsCopied (track-length (shape z)) 4 rows syn → RunSums z image 0 rows → track-length (shape z) < 64 →
+    Holds (shape z) (cells (shape z) image) syn
+short-holds z image rows syn all sums short = done-holds (shape z) _ (track-length (shape z)) syn
+    (record { size = all .size; sums = λ r q h _ b. let e : 0 + q ≡ q = omega arith in all .copied r q h b ∙ rw e at (sums .sums r q h (omega arith) (omega arith)) }) (omega arith)

@@ -7,7 +7,7 @@ use Rattle.code.specs.Record.{lag, track-length}
 use Rattle.code.specs.Image.{all-tracks, image-size, cells}
 use Rattle.code.specs.Sizes.{shape, Small}
 use Rattle.code.specs.declared.Sizes.{Sizes}
-use Rattle.track.specs.Track.{row}
+use Rattle.track.specs.Track.{row, Bits}
 use Rattle.syndrome.specs.Syndrome.{Image}
 use Rattle.sums.specs.Run.{rule, Done}
 
@@ -30,16 +30,20 @@ pub record Padded (z : Sizes) (n : ℕ) (image padded : List ℕ) : Type 0 where
   pub cells-of : (g i : ℕ) → g < n → i < 80 → i < track-length (shape z) →
       row (track-length (shape (edge z))) padded g (lag (shape z) + i) ≡ row (track-length (shape z)) image g i
 
--- Rows of a record shorter than 64 hold the sums of its padded tracks, from the end of the zeros on.
-pub record ShortDone (z : Sizes) (padded after : List ℕ) : Type 0 where
-  pub size : length after ≡ 4 * track-length (shape z)
-  pub sums : (r q : ℕ) → r < 4 → q < track-length (shape z) →
-      row (track-length (shape z)) after r q ≡ rule (shape (edge z)) (cells (shape (edge z)) padded) r (lag (shape z) + q) % 2
+-- An image and its padded tracks.
+pub record Padding (z : Sizes) (image padded : List ℕ) : Type 0 where
+  pub small : Small z
+  pub is-image : Image (shape z) image
+  pub is-padded : Padded z (all-tracks (shape z)) image padded
+
+-- Four rows of 64 hold the sums of an image at the positions from p on, as far as it has them.
+pub record RunSums (z : Sizes) (image : List ℕ) (p : ℕ) (rows : List ℕ) : Type 0 where
+  pub size : length rows ≡ 256
+  pub bits : Bits rows
+  pub sums : (r k : ℕ) → r < 4 → k < 64 → p + k < track-length (shape z) → row 64 rows r k ≡ rule (shape z) (cells (shape z) image) r (p + k) % 2
 
 -- An image of tracks of 64 cells or more, its padded tracks, and rows that hold its sums before n.
 pub record Summing (z : Sizes) (n : ℕ) (image padded syn : List ℕ) : Type 0 where
-  pub small : Small z
   pub long : 64 ≤ track-length (shape z)
-  pub is-image : Image (shape z) image
-  pub is-padded : Padded z (all-tracks (shape z)) image padded
+  pub given : Padding z image padded
   pub done : Done (shape z) (cells (shape z) image) n syn

@@ -58,10 +58,12 @@ pub record RowsPut (l p : ℕ) (f : ℕ → ℕ → ℕ) (m n : ℕ) (before aft
   pub late : (r q : ℕ) → p + 64 ≤ q → q < l → row l after r q ≡ row l before r q
   pub rest : (r q : ℕ) → n ≤ r → q < l → row l after r q ≡ row l before r q
 
--- A run begins at p that has position m and, before m + 64, all later ones of a track of l cells.
+-- A run begins at p that has position m and, before m + 64, all later ones of a track of l cells. It ends with the track or before, where
+-- that is as long.
 pub record RunStart (l m p : ℕ) : Type 0 where
   pub starts : p ≤ m
-  pub ends : p + 64 ≤ l
+  pub ends : 64 ≤ l → p + 64 ≤ l
+  pub short : l < 64 → p ≡ 0
   pub reaches : (q : ℕ) → q < m + 64 → q < l → q < p + 64
 
 -- The rows hold the sums of a record at the positions before n.

@@ -10,7 +10,7 @@ ghost use Rattle.code.specs.Image.{all-tracks, cells};
 ghost use Rattle.code.specs.Sizes.{shape, Small};
 ghost use Rattle.syndrome.specs.Syndrome.{set-of, Holds, Image};
 ghost use Rattle.sums.specs.Run.{SumsOf, RunAdded, Within, Most, rule, RunPut, RowsPut, RunStart, Done};
-ghost use Rattle.sums.specs.Edge.{edge, FirstCopied, Padded, ShortDone, Summing};
+ghost use Rattle.sums.specs.Edge.{edge, FirstCopied, Padded, Padding, RunSums, Summing};
 
 // ---- A run of 64 positions
 
@@ -176,7 +176,7 @@ fn pad_track(padded: &mut [u8], image: &[u8], z: Sizes, g: usize)
 }
 
 // Copies the first cells of all tracks.
-fn pad(padded: &mut [u8], image: &[u8], z: Sizes)
+pub fn pad(padded: &mut [u8], image: &[u8], z: Sizes)
     requires { ⌜ Small z ⌝ }
     requires { ⌜ Image (shape z) (now image) ⌝ }
     requires { ⌜ Padded z 0 (now image) (now padded) ⌝ }
@@ -190,26 +190,68 @@ fn pad(padded: &mut [u8], image: &[u8], z: Sizes)
     }
 }
 
-// ---- The syndromes
+// ---- The sums of 64 positions
 
-// The rows of a record shorter than a run, from its padded tracks.
-fn sum_short(syn: &mut [u8], padded: &[u8], z: Sizes)
+// Puts the sums of the 64 positions from m on, as the padded tracks have them, into four rows of w cells, from p on.
+fn edge_rows(rows: &mut [u8], w: usize, p: usize, padded: &[u8], z: Sizes, m: usize)
+    requires { ⌜ length (now rows) ≡ 4 * w ⌝ }
+    requires { ⌜ p + 64 ≤ w ⌝ }
     requires { ⌜ Small z ⌝ }
-    requires { ⌜ track-length (shape z) < 64 ⌝ }
-    requires { ⌜ length (now syn) ≡ 4 * track-length (shape z) ⌝ }
     requires { ⌜ Image (shape (edge z)) (now padded) ⌝ }
-    ensures { λ _. ⌜ ShortDone z (now (padded .entry)) (now (syn .exit)) ⌝ }
+    requires { ⌜ m < lag (shape z) ⌝ }
+    ensures { λ _. ⌜ RowsPut w p (rule (shape (edge z)) (cells (shape (edge z)) (now (padded .entry)))) (lag (shape z) + m) 4 (now (rows .entry)) (now (rows .exit)) ⌝ }
 {
     let lag = z.t1 + z.t2 + 1;
-    let l = z.positions + lag;
     let sizes = Sizes {
         t1: z.t1,
         t2: z.t2,
         positions: 80,
         closed: z.closed,
     };
+    put_rows(rows, w, p, padded, sizes, lag + m);
+}
+
+// Puts the sums of the 64 positions from p on into four rows of 64, as far as a record has these positions. Where the diagonals leave
+// the tracks at their start, they are those of the padded tracks.
+pub fn sum_rows(rows: &mut [u8], image: &[u8], padded: &[u8], z: Sizes, p: usize)
+    requires { ⌜ length (now rows) ≡ 256 ⌝ }
+    requires { ⌜ Padding z (now image) (now padded) ⌝ }
+    requires { ⌜ (64 ≤ track-length (shape z) → p + 64 ≤ track-length (shape z)) ⌝ }
+    requires { ⌜ (track-length (shape z) < 64 → p ≡ 0) ⌝ }
+    ensures { λ _. ⌜ RunSums z (now (image .entry)) p (now (rows .exit)) ⌝ }
+{
+    let lag = z.t1 + z.t2 + 1;
+    if p < lag {
+        edge_rows(rows, 64, 0, padded, z, p);
+    } else {
+        put_rows(rows, 64, 0, image, z, p);
+    }
+}
+
+// Where the run of position m begins: there or, where fewer than 64 positions are left, so far before that it ends with the track. A
+// record shorter than a run has one, from its start.
+pub fn run_start(l: usize, m: usize) -> usize
+    ensures { λ p. ⌜ RunStart l m p ⌝ }
+{
+    if l < 64 {
+        return 0;
+    }
+    let last = l - 64;
+    if last < m { last } else { m }
+}
+
+// ---- The syndromes
+
+// The rows of a record shorter than a run.
+fn sum_short(syn: &mut [u8], image: &[u8], padded: &[u8], z: Sizes)
+    requires { ⌜ track-length (shape z) < 64 ⌝ }
+    requires { ⌜ length (now syn) ≡ 4 * track-length (shape z) ⌝ }
+    requires { ⌜ Padding z (now image) (now padded) ⌝ }
+    ensures { λ _. ⌜ Holds (shape z) (cells (shape z) (now (image .entry))) (now (syn .exit)) ⌝ }
+{
+    let l = z.positions + (z.t1 + z.t2 + 1);
     let mut rows = [0u8; 256];
-    put_rows(&mut rows, 64, 0, padded, sizes, lag);
+    sum_rows(&mut rows, image, padded, z, 0);
     let mut r = 0;
     while r < 4 {
         let from = r * 64;
@@ -221,16 +263,7 @@ fn sum_short(syn: &mut [u8], padded: &[u8], z: Sizes)
     }
 }
 
-// Where the run of position m begins: there or, where fewer than 64 positions are left, so far before that it ends with the track.
-fn run_start(l: usize, m: usize) -> usize
-    requires { ⌜ 64 ≤ l ⌝ }
-    ensures { λ p. ⌜ RunStart l m p ⌝ }
-{
-    let last = l - 64;
-    if last < m { last } else { m }
-}
-
-// The sums of the 64 positions from m on. Where the diagonals leave the track at its start, they are those of the padded tracks.
+// The sums of the 64 positions from m on, of a longer one.
 fn sum_run(syn: &mut [u8], padded: &[u8], image: &[u8], z: Sizes, m: usize)
     requires { ⌜ Summing z m (now image) (now padded) (now syn) ⌝ }
     ensures { λ _. ⌜ Done (shape z) (cells (shape z) (now (image .entry))) (m + 64) (now (syn .exit)) ⌝ }
@@ -239,13 +272,7 @@ fn sum_run(syn: &mut [u8], padded: &[u8], image: &[u8], z: Sizes, m: usize)
     let l = z.positions + lag;
     let p = run_start(l, m);
     if p < lag {
-        let sizes = Sizes {
-            t1: z.t1,
-            t2: z.t2,
-            positions: 80,
-            closed: z.closed,
-        };
-        put_rows(syn, l, p, padded, sizes, lag + p);
+        edge_rows(syn, l, p, padded, z, p);
     } else {
         put_rows(syn, l, p, image, z, p);
     }
@@ -264,7 +291,7 @@ pub fn syndromes(image: &[u8], z: Sizes, syn: &mut [u8])
     let padded = &mut room[..(lag + 3) * (80 + lag)];
     pad(padded, image, z);
     if l < 64 {
-        sum_short(syn, padded, z);
+        sum_short(syn, image, padded, z);
         return;
     }
     let mut m = 0;

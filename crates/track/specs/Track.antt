@@ -47,10 +47,22 @@ pub record Copied (source before after : List ℕ) : Type 0 where
   pub copy : (i : ℕ) → i < length source → getD after i 0 ≡ getD source i 0
   pub later : (i : ℕ) → length source ≤ i → getD after i 0 ≡ getD before i 0
 
+-- r is the larger of x and y.
+pub record Larger (x y r : ℕ) : Type 0 where
+  pub first : x ≤ r
+  pub second : y ≤ r
+  pub least : (b : ℕ) → x ≤ b → y ≤ b → r ≤ b
+
 -- r is the highest byte of a list, 0 of an empty one.
 pub record Highest (xs : List ℕ) (r : ℕ) : Type 0 where
   pub above : (i : ℕ) → getD xs i 0 ≤ r
   pub least : (b : ℕ) → ((i : ℕ) → i < length xs → getD xs i 0 ≤ b) → r ≤ b
+
+-- r is the highest byte of two lists, 0 of empty ones.
+pub record HighestTwo (xs ys : List ℕ) (r : ℕ) : Type 0 where
+  pub first : (i : ℕ) → getD xs i 0 ≤ r
+  pub second : (i : ℕ) → getD ys i 0 ≤ r
+  pub least : (b : ℕ) → ((i : ℕ) → i < length xs → getD xs i 0 ≤ b) → ((i : ℕ) → i < length ys → getD ys i 0 ≤ b) → r ≤ b
 
 -- r says whether every cell is 0.
 pub record Zeros (xs : List ℕ) (r : Bool) : Type 0 where

@@ -66,8 +66,12 @@ pub fn quotient_word(r: u64, prior: u64, d: usize, n: usize) -> u64
         return r;
     }
     let fed = r ^ (prior >> (64 - d));
-    let q = first_cells(divide_word(fed, d), n);
-    fed ^ (q << d)
+    let whole = divide_word(fed, d);
+    // Where all cells count again, the quotient is the word.
+    if 64 <= n {
+        return whole;
+    }
+    fed ^ (first_cells(whole, n) << d)
 }
 
 // ---- Loading

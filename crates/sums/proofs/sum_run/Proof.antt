@@ -26,20 +26,18 @@ add-l c = search needs
 run-start-requires : tie.Need-run-start-requires
 run-start-requires c κs = search needs
 
-add-put-rows : tie.Need-add-put-rows
-add-put-rows c = search needs
+edge-rows-requires : tie.Need-edge-rows-requires
+edge-rows-requires c κs =
+    let p = c .before .before .run-start .ensures in
+    let s = c .before .before .before .before .before .before .before .before .pre in
+    (s .done .size, (p .ends (s .long), (s .given .small, (padded-image _ _ _ _ (s .given .is-padded), c .before .if1 .taken))))
 
 put-rows-requires : tie.Need-put-rows-requires
 put-rows-requires c κs =
     let p = c .before .before .run-start .ensures in
     let s = c .before .before .before .before .before .before .before .before .pre in
-    let lag-small : lag (shape (c .before .before .before .before .before .before .before .before .args .z)) ≤ 15 = omega (arith, s .small .t1-small, s .small .t2-small) in (
-      s .done .size,
-      (p .ends, record { small = edge-small _ (s .small); is-image = padded-image _ _ _ _ (s .is-padded); from = omega arith; to = omega (arith, c .before .if1 .taken) }),
-    )
-
-put-rows-requires-2 : tie.Need-put-rows-requires-2
-put-rows-requires-2 c κs = search needs
+    let ends = p .ends (s .long) in
+    (s .done .size, (ends, record { small = s .given .small; is-image = s .given .is-image; from = search needs; to = ends }))
 
 same-length : tie.Need-same-length
 same-length c = search needs
@@ -48,7 +46,7 @@ returns : tie.Need-returns
 returns c =
     let e = c .before .before .before .before .before in
     let s = e .before .before .before .before .before .before in
-    padded-done (s .args .z) _ _ _ _ _ _ (s .pre) (e .run-start .ensures) (c .before .before .before .before .if1 .taken) (c .before .before .put-rows .ensures)
+    padded-done (s .args .z) _ _ _ _ _ _ (s .pre) (e .run-start .ensures) (c .before .before .before .before .if1 .taken) (c .before .before .edge-rows .ensures)
 
 same-length-2 : tie.Need-same-length-2
 same-length-2 c = search needs
@@ -58,7 +56,7 @@ returns-2 c =
     let e = c .before .before .before .before .before in
     let s = e .before .before .before .before .before .before in
     let p = e .run-start .ensures in
-    done-more _ _ _ _ (rule (shape (s .args .z)) (cells (shape (s .args .z)) (now (s .args .image)))) _ _ _ (s .pre .done) (p .starts) (p .reaches) (p .ends) (λ r k h b. refl) (c .before .before .put-rows2 .ensures)
+    done-more _ _ _ _ (rule (shape (s .args .z)) (cells (shape (s .args .z)) (now (s .args .image)))) _ _ _ (s .pre .done) (p .starts) (p .reaches) (p .ends (s .pre .long)) (λ r k h b. refl) (c .before .before .put-rows .ensures)
 
 pub sum-run-spec : {M : Type 1} → statement M
 sum-run-spec =
@@ -68,9 +66,8 @@ sum-run-spec =
     add-lag-2
     add-l
     run-start-requires
-    add-put-rows
+    edge-rows-requires
     put-rows-requires
-    put-rows-requires-2
     same-length
     returns
     same-length-2

@@ -1,5 +1,5 @@
 -- `sum_short` meets its contract. The loop's invariant: the first r rows are copied. Assumes nothing.
-use mathlib.Core.Path.{_≡_, sym, _∙_}
+use mathlib.Core.Path.{_≡_, refl, sym}
 use Prim.Native.Nat.{ℕ, _+_, _*_, _-_, _≤_}
 use native.Mathlib.Omega.{arith}
 use borrow.Author.Needs.{needs}
@@ -7,43 +7,42 @@ use lib.ListN.{length-replicate}
 use Rattle.code.specs.Record.{track-length}
 use Rattle.code.specs.Sizes.{shape}
 use Rattle.track.proofs.Rows.{row-end}
-use Rattle.sums.proofs.Padding.{edge-small}
-use Rattle.sums.proofs.Short.{RowsCopied, copied-none, copied-more, short-done}
+use Rattle.sums.proofs.Short.{RowsCopied, copied-none, copied-more, short-holds}
 use Rattle.sums.proofs.sum_short.Statement.{statement}
 use Rattle.sums.proofs.sum_short.Tie as tie
 
 abbrev Inv-loop : tie.InvT-loop
-Inv-loop syn₀ padded lag l rows r₀ syn r = (r ≤ 4) × RowsCopied l r rows syn
+Inv-loop syn₀ image padded l rows r₀ syn r = (r ≤ 4) × RowsCopied l r rows syn
 
 abbrev μ-loop : tie.MeasureT-loop
-μ-loop syn₀ padded lag l rows r₀ syn r = 4 - r
+μ-loop syn₀ image padded l rows r₀ syn r = 4 - r
 
 -- A row is within the rows.
 room : (c : tie.In-loop Inv-loop μ-loop) →
     let l = c .before in
-    let n = track-length (shape (l .before .before .before .before .before .before .before .before .args .z)) in
+    let n = track-length (shape (l .before .before .before .before .before .before .before .before .before .args .z)) in
     l .loop .r * n + n ≤ 4 * n
 room c = row-end _ _ 4 (search needs)
-
-add-lag : tie.Need-add-lag Inv-loop μ-loop
-add-lag c = search needs
-
-add-lag-2 : tie.Need-add-lag-2 Inv-loop μ-loop
-add-lag-2 c = search needs
 
 add-l : tie.Need-add-l Inv-loop μ-loop
 add-l c = search needs
 
-slice-aggregate-put-rows : tie.Need-slice-aggregate-put-rows Inv-loop μ-loop
-slice-aggregate-put-rows c = sym (length-replicate {A = ℕ} 256 0)
+add-l-2 : tie.Need-add-l-2 Inv-loop μ-loop
+add-l-2 c = search needs
 
-put-rows-requires : tie.Need-put-rows-requires Inv-loop μ-loop
-put-rows-requires c κs =
-    let s = c .before .before .before .before .before in
-    (length-replicate {A = ℕ} 256 0, (omega arith, record { small = edge-small _ (s .pre .0); is-image = s .pre .1 .1 .1; from = omega arith; to = omega arith }))
+add-l-3 : tie.Need-add-l-3 Inv-loop μ-loop
+add-l-3 c = search needs
+
+slice-aggregate-sum-rows : tie.Need-slice-aggregate-sum-rows Inv-loop μ-loop
+slice-aggregate-sum-rows c = sym (length-replicate {A = ℕ} 256 0)
+
+sum-rows-requires : tie.Need-sum-rows-requires Inv-loop μ-loop
+sum-rows-requires c κs =
+    let s = c .before .before .before .before .before .before .pre in
+    (length-replicate {A = ℕ} 256 0, (s .1 .1, ((λ h. absurd (omega (arith, s .0))), (λ h. refl))))
 
 loop-holds : tie.Need-loop-holds Inv-loop μ-loop
-loop-holds c = (search needs, copied-none _ _ _ (c .before .before .before .before .before .before .before .pre .1 .1 .0))
+loop-holds c = (search needs, copied-none _ _ _ (c .before .before .before .before .before .before .before .before .pre .1 .0))
 
 mul-from : tie.Need-mul-from Inv-loop μ-loop
 mul-from c = search needs
@@ -87,8 +86,8 @@ loop-less c = search needs
 loop-again : tie.Need-loop-again Inv-loop μ-loop
 loop-again c =
     let l = c .before .before .before .before .before .before .before in
-    let s = l .before .before .before .before .before .before .before .before in
-    (search needs, copied-more _ _ _ _ _ (l .loop .inv .1) (search needs) (s .pre .1 .0) (l .before .before .put-rows .ensures .size ∙ length-replicate {A = ℕ} 256 0) (c .before .before .copy-into .ensures))
+    let s = l .before .before .before .before .before .before .before .before .before in
+    (search needs, copied-more _ _ _ _ _ (l .loop .inv .1) (search needs) (s .pre .0) (l .before .before .sum-rows .ensures .size) (c .before .before .copy-into .ensures))
 
 same-length : tie.Need-same-length Inv-loop μ-loop
 same-length c = search needs
@@ -96,9 +95,9 @@ same-length c = search needs
 returns : tie.Need-returns Inv-loop μ-loop
 returns c =
     let l = c .before in
-    let s = l .before .before .before .before .before .before .before .before in
+    let s = l .before .before .before .before .before .before .before .before .before in
     let e : l .loop .r ≡ 4 = omega (arith, c .loop-test, l .loop .inv .0) in
-    short-done (s .args .z) _ _ _ _ (rw e at (l .loop .inv .1)) (l .before .before .put-rows .ensures) (s .pre .1 .0)
+    short-holds (s .args .z) _ _ _ (rw e at (l .loop .inv .1)) (l .before .before .sum-rows .ensures) (s .pre .0)
 
 pub sum-short-spec : {M : Type 1} → statement M
 sum-short-spec =
@@ -106,11 +105,11 @@ sum-short-spec =
     (tie.spec
     Inv-loop
     μ-loop
-    add-lag
-    add-lag-2
     add-l
-    slice-aggregate-put-rows
-    put-rows-requires
+    add-l-2
+    add-l-3
+    slice-aggregate-sum-rows
+    sum-rows-requires
     loop-holds
     mul-from
     add-to

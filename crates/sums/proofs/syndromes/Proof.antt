@@ -7,8 +7,7 @@ use Rattle.code.specs.Image.{cells}
 use Rattle.code.specs.Sizes.{shape}
 use Rattle.track.proofs.Rows.{front}
 use Rattle.sums.specs.Run.{Done}
-use Rattle.sums.proofs.Padding.{padded-room, padded-none, padded-image}
-use Rattle.sums.proofs.Delay.{short-holds}
+use Rattle.sums.proofs.Padding.{padded-room, padded-none}
 use Rattle.sums.proofs.Rows.{done-holds}
 use Rattle.sums.proofs.syndromes.Statement.{statement}
 use Rattle.sums.proofs.syndromes.Tie as tie
@@ -49,13 +48,13 @@ pad-requires c κs = let p = c .before .before .before .before .before .before .
 sum-short-requires : tie.Need-sum-short-requires Inv-loop μ-loop
 sum-short-requires c κs =
     let s = c .before .before .before .before .before .before .before .before .before .before .before .before .pre in
-    (s .0, (c .before .before .if1 .taken, (s .1 .1, padded-image _ _ _ _ (c .before .before .before .before .before .pad .ensures))))
+    (c .before .before .if1 .taken, (s .1 .1, record { small = s .0; is-image = s .1 .0; is-padded = c .before .before .before .before .before .pad .ensures }))
 
 same-length : tie.Need-same-length Inv-loop μ-loop
 same-length c = search needs
 
 returns : tie.Need-returns Inv-loop μ-loop
-returns c = short-holds _ _ _ _ (c .before .before .before .before .before .before .before .before .before .pad .ensures) (c .before .before .before .before .before .before .if1 .taken) (c .before .before .before .sum-short .ensures)
+returns c = search needs
 
 loop-holds : tie.Need-loop-holds Inv-loop μ-loop
 loop-holds c = record { size = c .before .before .before .before .before .before .before .before .before .before .pre .1 .1; sums = λ r q h b k. absurd (omega arith) }
@@ -65,7 +64,7 @@ sum-run-requires c κs =
     let l = c .before .before .before in
     let e = l .before in
     let s = e .before .before .before .before .before .before .before .before .before .before .pre in
-    record { small = s .0; long = omega (arith, e .if1 .left); is-image = s .1 .0; is-padded = e .before .before .before .pad .ensures; done = l .loop .inv }
+    record { long = omega (arith, e .if1 .left); given = record { small = s .0; is-image = s .1 .0; is-padded = e .before .before .before .pad .ensures }; done = l .loop .inv }
 
 add-m : tie.Need-add-m Inv-loop μ-loop
 add-m c = search needs
