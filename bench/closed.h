@@ -48,14 +48,9 @@ static inline uint64_t transpose(uint64_t x)
     return swap_bits(swap_bits(swap_bits(x, 7, 0xaa00aa00aa00aa), 14, 0xcccc0000cccc), 28, 0xf0f0f0f0);
 }
 
-static inline uint64_t word_of(const uint8_t *cells, size_t n)
+static inline uint64_t word_of(const uint8_t *cells)
 {
     uint64_t w = 0;
-    if (n < 64) {
-        for (size_t k = 0; k < n; k++)
-            w ^= (uint64_t)cells[k] << k;
-        return w;
-    }
     for (size_t k = 0; k < 8; k++) {
         uint64_t eight;
         memcpy(&eight, cells + 8 * k, 8);
@@ -225,17 +220,26 @@ static size_t clear_tails(const uint8_t *marks, uint8_t *out, size_t l, size_t s
     return need;
 }
 
+/* Loads the sums of an image, 64 positions at a time. */
+static void load_sums(const uint8_t *restrict image, size_t l, sum_rows *sums)
+{
+    uint8_t padded[ALL * PADDED] = {0}, run[4 * RUN];
+    pad(padded, image, l);
+    for (size_t i = 0; 64 * i < l; i++) {
+        size_t p = run_start(l, 64 * i);
+        put_sums(run, RUN, 0, image, padded, l, p);
+        for (size_t r = 0; r < 4; r++)
+            sums->word[WORDS * r + 1 + i] = first_cells(word_of(run + RUN * r), l - p) >> (64 * i - p);
+    }
+}
+
 static void prepare(const uint8_t *marks, const uint8_t *restrict image, size_t len, uint8_t *restrict out, size_t l, bool lost, sum_rows *sums,
                     size_t need[2])
 {
-    uint8_t syn[ROOM];
     copy_known(out, image, len, lost);
     for (size_t s = 0; s < 2; s++)
         need[s] = clear_tails(marks, out, l, s);
-    syndromes(out, l, syn);
-    for (size_t r = 0; r < 4; r++)
-        for (size_t i = 0; 64 * i < l; i++)
-            sums->word[WORDS * r + 1 + i] = word_of(syn + r * l + 64 * i, l - 64 * i);
+    load_sums(out, l, sums);
 }
 
 static size_t find_start(const sum_rows *sums, size_t l)

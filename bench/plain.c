@@ -35,13 +35,29 @@ static inline void add_track(uint8_t *restrict acc, const uint8_t *restrict trac
         acc[k] ^= track[k];
 }
 
-static inline uint8_t highest(const uint8_t *s, size_t n)
+static inline uint8_t larger(uint8_t x, uint8_t y) { return x < y ? y : x; }
+
+static inline uint8_t highest_few(const uint8_t *s, size_t n)
 {
     uint8_t most = 0;
     for (size_t i = 0; i < n; i++)
-        if (most < s[i])
-            most = s[i];
+        most = larger(most, s[i]);
     return most;
+}
+
+/* Of many cells the highest is that of two parts, the first cells and the last ones, which may overlap. */
+static inline uint8_t highest(const uint8_t *s, size_t n)
+{
+    if (!LATEST || n < 32)
+        return highest_few(s, n);
+    size_t h = 32 * ((n + 63) / 64);
+    const uint8_t *t = s + n - h;
+    uint8_t a = 0, b = 0;
+    for (size_t i = 0; i < h; i++) {
+        a = larger(a, s[i]);
+        b = larger(b, t[i]);
+    }
+    return larger(a, b);
 }
 
 /* Are eight cells 0? */
@@ -190,25 +206,40 @@ static inline void copy_first(uint8_t *restrict out, const uint8_t *restrict tra
         memcpy(out, track, FIRST);
 }
 
-static void syndromes(const uint8_t *restrict image, size_t l, uint8_t *restrict syn)
+/* The first cells of each track behind zeros, for the positions where a diagonal goes back past the start. */
+static inline void pad(uint8_t *restrict padded, const uint8_t *restrict image, size_t l)
 {
-    /* The first cells of each track behind zeros, for the positions where a diagonal goes back past the start. */
-    uint8_t padded[ALL * PADDED] = {0};
     for (size_t g = 0; g < ALL; g++)
         copy_first(padded + g * PADDED + LAG, image + g * l, LATEST ? (ALL - g) * l : l);
+}
+
+/* Puts the sums at the positions from m on into four rows of w, from p on. */
+static inline void put_sums(uint8_t *restrict rows, size_t w, size_t p, const uint8_t *restrict image, const uint8_t *restrict padded, size_t l,
+                            size_t m)
+{
+    if (m < LAG)
+        put_rows(rows, w, p, padded, PADDED, LAG + m);
+    else
+        put_rows(rows, w, p, image, l, m);
+}
+
+/* Where the run of position m begins: there or, where fewer positions are left, so far before that it ends with the track. */
+static inline size_t run_start(size_t l, size_t m) { return l < RUN ? 0 : l - RUN < m ? l - RUN : m; }
+
+static void syndromes(const uint8_t *restrict image, size_t l, uint8_t *restrict syn)
+{
+    uint8_t padded[ALL * PADDED] = {0};
+    pad(padded, image, l);
     if (l < RUN) {
         uint8_t rows[4 * RUN];
-        put_rows(rows, RUN, 0, padded, PADDED, LAG);
+        put_sums(rows, RUN, 0, image, padded, l, 0);
         for (size_t r = 0; r < 4; r++)
             memcpy(syn + r * l, rows + r * RUN, l);
         return;
     }
     for (size_t m = 0; m < l; m += RUN) {
-        size_t p = l - RUN < m ? l - RUN : m;
-        if (p < LAG)
-            put_rows(syn, l, p, padded, PADDED, LAG + p);
-        else
-            put_rows(syn, l, p, image, l, p);
+        size_t p = run_start(l, m);
+        put_sums(syn, l, p, image, padded, l, p);
     }
 }
 

@@ -1,7 +1,8 @@
 /*
- * The scheme in plain C, written by hand with the functions, loops and order of the library: what the benchmark measures it
- * against, so that a row compares two compilers. Repair and tracing are there twice: position by position, as the library did
- * before version 0.7.2, and with CLOSED_FORMS by closed forms, as it does now (closed.h).
+ * The scheme in plain C, written by hand with the functions and order of the library: what the benchmark measures it against.
+ * It is there twice. As it stands its loops are plain and repair and tracing go position by position, as the library's did before
+ * version 0.7.2: by it the library's marks were set. With CLOSED_FORMS all loops are the library's of today, and repair and tracing
+ * go by closed forms (closed.h), so that a row compares two compilers.
  */
 #ifndef PLAIN_H
 #define PLAIN_H
