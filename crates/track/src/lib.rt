@@ -168,7 +168,7 @@ pub fn highest(s: &[u8]) -> u8
     highest_two(&s[..h], &s[from..])
 }
 
-// Are the eight cells from `at` on 0? They compile to one load.
+// Are the eight cells from `at` on 0? They are tested at once.
 fn eight_zero(s: &[u8], at: usize) -> bool
     requires { ⌜ at + 8 ≤ length (now s) ⌝ }
     ensures { λ r. ⌜ EightZeros (now (s .entry)) at r ⌝ }
