@@ -1,13 +1,12 @@
 -- Rows of cells in words: their cells are bits of words, they are loaded, and their first words are 0.
-use mathlib.Core.Path.{_≡_, refl, sym, ap, _∙_, fun-ext}
+use mathlib.Core.Path.{_≡_, refl, sym, ap, _∙_}
 use mathlib.Core.Logic.{by-cases}
 use mathlib.Core.List.{List}
 use Prim.Native.Nat.{ℕ, zero, suc, _+_, _*_, _-_, _/_, _%_, _^_, _<_, _≤_}
 use native.Mathlib.Decide.{decLt, ℕ-discrete}
 use native.Mathlib.Omega.{arith}
 use lib.Bits.{bitOr, or-add-and, xor-add-and}
-use lib.ListN.{length, getD, set, length-set}
-use lib.Seq.{getD-set-same, getD-set-other}
+use lib.ListN.{length, getD}
 use Rattle.code.specs.Record.{TrackSet, A, B, track-length, diagonal, vertical}
 use Rattle.code.specs.Image.{cells}
 use Rattle.code.specs.Sizes.{shape}
@@ -32,18 +31,6 @@ cell-word ws r i k m h b e = cell-index ws r i k m (34 * r + 1 + i) h b e refl
 pub cell-past : (ws : List ℕ) (r m : ℕ) → 2112 ≤ m → cell ws r m ≡ 0
 unfolding cell
 cell-past ws r m h = cut-out 2112 (λ n. bit-at ws (2176 * r + (64 + n))) m h
-
--- Rows with the same words have the same cells.
-pub row-same : (xs ys : List ℕ) (q : ℕ) → ((i : ℕ) → i < 33 → getD xs (34 * q + 1 + i) 0 ≡ getD ys (34 * q + 1 + i) 0) → cell xs q ≡ cell ys q
-row-same xs ys q e = fun-ext (λ m. by-cases (decLt m 2112) (near m) (far m))
-  where
-    near : (m : ℕ) → m < 2112 → cell xs q m ≡ cell ys q m
-    near m h =
-        cell-word xs q (m / 64) (m % 64) m (omega arith) (omega arith) (omega arith) ∙ ap (λ w. bit w (m % 64)) (e (m / 64) (omega arith))
-        ∙ sym (cell-word ys q (m / 64) (m % 64) m (omega arith) (omega arith) (omega arith))
-
-    far : (m : ℕ) → ¬ (m < 2112) → cell xs q m ≡ cell ys q m
-    far m h = cell-past xs q m (omega arith) ∙ sym (cell-past ys q m (omega arith))
 
 -- ## Loading
 

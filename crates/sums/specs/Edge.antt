@@ -1,7 +1,7 @@
 -- The first positions, where a diagonal goes back past the start: tracks of which the first cells stand behind zeros.
 use mathlib.Core.Path.{_≡_}
 use mathlib.Core.List.{List}
-use Prim.Native.Nat.{ℕ, _+_, _*_, _<_, _≤_, _%_}
+use Prim.Native.Nat.{ℕ, _+_, _<_, _≤_, _%_}
 use lib.ListN.{length, getD}
 use Rattle.code.specs.Record.{lag, track-length}
 use Rattle.code.specs.Image.{all-tracks, image-size, cells}

@@ -1,14 +1,11 @@
 -- `sum_run` meets its contract: the sums are those of the padded tracks, or of the image. Assumes nothing.
 use mathlib.Core.Path.{refl}
-use Prim.Native.Nat.{_≤_}
-use native.Mathlib.Omega.{arith}
 use denote.Ref.{now}
 use borrow.Author.Needs.{needs}
-use Rattle.code.specs.Record.{lag}
 use Rattle.code.specs.Image.{cells}
 use Rattle.code.specs.Sizes.{shape}
 use Rattle.sums.specs.Run.{rule}
-use Rattle.sums.proofs.Padding.{edge-small, padded-image}
+use Rattle.sums.proofs.Padding.{padded-image}
 use Rattle.sums.proofs.Delay.{padded-done}
 use Rattle.sums.proofs.Rows.{done-more}
 use Rattle.sums.proofs.sum_run.Statement.{statement}
