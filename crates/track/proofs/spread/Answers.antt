@@ -2,11 +2,9 @@
 use mathlib.Core.Path.{◌≡◌, refl}
 use Prim.Native.Nat.{ℕ, suc, ◌+◌, ◌-◌, ◌*◌, ◌/◌, ◌%◌, ◌^◌, ◌<◌}
 use native.Mathlib.Omega.{arith}
-use borrow.Author.Rules.{rules}
 use lib.Bits.{bit_and}
 use Rattle.track.proofs.Words.{eight, ones, masked}
-use Rattle.track.proofs.spread.Statement.{statement}
-use Rattle.track.proofs.spread.Tie as tie
+use Rattle.track.proofs.spread.Goals as goal
 
 abbrev factor : ℕ
 factor = 0x40_2010_0804_0201
@@ -42,13 +40,7 @@ top p v h = omega arith
 highest : (b : ℕ) → b < 256 → bit_and (both b) ones / 2 ^ 56 % 2 ^ 8 ≡ b % 2
 highest b h = rw (masked (both b) 56 refl, sum_of b, top (product b) (b % 2) (omega arith)) (omega arith)
 
-mul-result : tie.Need-overflow-mul-result
-mul-result c = search rules
-
-add-result : tie.Need-overflow-add-result
-add-result c = search rules
-
-returns : tie.Need-returns
+pub returns : goal.returns
 returns c =
     let b = c.args.byte in
     eight _
@@ -60,6 +52,3 @@ returns c =
     (cell b 5 (omega arith) (omega arith) refl)
     (cell b 6 (omega arith) (omega arith) refl)
     (omega (arith, highest b (omega arith)))
-
-pub spread-spec : {M : Type 1} → statement M
-spread-spec = tie.close (tie.spec mul-result add-result returns)

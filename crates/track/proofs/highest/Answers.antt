@@ -12,12 +12,11 @@ use lib.Seq.{get_or-take, length-take-le}
 use Rattle.track.specs.Track.{Highest, HighestTwo}
 use Rattle.track.proofs.Cells.{every}
 use Rattle.track.proofs.Parts.{part_at}
-use Rattle.track.proofs.highest.Statement.{statement}
-use Rattle.track.proofs.highest.Tie as tie
+use Rattle.track.proofs.highest.Goals as goal
 
 -- The highest byte of the first h cells and of those from `from` on, where no cell is left out between them.
-highest-of-parts : (xs : List ℕ) (h from r : ℕ) → h ≤ length xs → from ≤ h → HighestTwo (take h xs) (take (length xs - from) (drop from xs)) r → Highest xs r
-highest-of-parts xs h from r inside meet t = record {
+highest_of_parts : (xs : List ℕ) (h from r : ℕ) → h ≤ length xs → from ≤ h → HighestTwo (take h xs) (take (length xs - from) (drop from xs)) r → Highest xs r
+highest_of_parts xs h from r inside meet t = record {
   above = every (λ v. v ≤ r) xs (omega arith) (λ i l. by_cases (dec_lt i h) (λ b. omega (arith, first i b, t.first i)) (λ b. late i l (omega arith)));
   least = λ b bound. t.least b
       (λ i l. let k : i < h = omega (arith, length-take-le h xs inside) in omega (arith, first i k, bound i (omega arith)))
@@ -40,53 +39,13 @@ highest-of-parts xs h from r inside meet t = record {
 same_size : (xs : List ℕ) (h : ℕ) → h ≤ length xs → length (take (length xs - (length xs - h)) (drop (length xs - h) xs)) ≡ length (take h xs)
 same_size xs h inside = omega (arith, length-take-le h xs inside, mid_len (length xs - h) (length xs) xs (omega arith))
 
-highest-few-requires : tie.Need-highest-few-requires
-highest-few-requires c κs = search rules
+pub slice_bounds-highest_two-end : goal.slice_bounds-highest_two-end
+slice_bounds-highest_two-end c = sym (length-take-le _ _ (search rules))
 
-returns : tie.Need-returns
-returns c = search rules
+pub highest_two-requires : goal.highest_two-requires
+highest_two-requires c = same_size _ _ (search rules)
 
-add-h : tie.Need-overflow-add-h
-add-h c = search rules
-
-mul-h : tie.Need-overflow-mul-h
-mul-h c = search rules
-
-sub-from : tie.Need-overflow-sub-from
-sub-from c = search rules
-
-slice-aggregate-highest-two : tie.Need-slice-aggregate-highest-two
-slice-aggregate-highest-two c = sym (length-take-le _ _ (search rules))
-
-sub-highest-two : tie.Need-overflow-sub-highest-two
-sub-highest-two c = search rules
-
-part-highest-two-start : tie.Need-slice-bounds-highest-two-start
-part-highest-two-start c = search rules
-
-part-highest-two-end : tie.Need-slice-bounds-highest-two-end
-part-highest-two-end c = search rules
-
-highest-two-requires : tie.Need-highest-two-requires
-highest-two-requires c κs = same_size _ _ (sub-from c.before.before)
-
-returns-2 : tie.Need-returns-2
-returns-2 c =
-    let s = c.before.before.before.before.before.args.s.now in
-    highest-of-parts s _ (length s - _) _ (sub-from c.before.before.before) (search rules) c.highest-two.ensures
-
-pub highest-spec : {M : Type 1} → statement M
-highest-spec =
-    tie.close
-    (tie.spec
-    highest-few-requires
-    returns
-    add-h
-    mul-h
-    sub-from
-    slice-aggregate-highest-two
-    sub-highest-two
-    part-highest-two-start
-    part-highest-two-end
-    highest-two-requires
-    returns-2)
+pub returns : goal.returns
+returns c =
+    let s = c.args.s.now in
+    highest_of_parts s _ (length s - _) _ (search rules) (search rules) c.highest_two.ensures

@@ -1,0 +1,11 @@
+-- `copy_into`: the loop's invariant is that the first i cells are the source's and the rest stay.
+use Prim.Native.Nat.{◌≤◌, ◌-◌}
+use lib.ListN.{get_or}
+use Rattle.track.proofs.Cells.{Written}
+use Rattle.track.proofs.copy_into.Given as goal
+
+abbrev pub invariant-loop-i : goal.invariant-loop-i
+invariant-loop-i l = (l.i ≤ l.n) × Written l.initial.out (λ k. get_or l.source k 0) 0 l.i l.out
+
+abbrev pub decreases-loop-i : goal.decreases-loop-i
+decreases-loop-i l = l.n - l.i
