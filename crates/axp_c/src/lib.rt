@@ -13,7 +13,7 @@ pub const NO_EXTRA: u32 = 4294967295;
 
 // axp_result.
 #[repr(C)]
-#[derive(Drop)]
+#[derive(Clone, Copy)]
 pub struct AxpResult {
     pub answer: u32,
     pub detail: u32,

@@ -6,7 +6,7 @@ ghost use Rattle.changes.specs.Changes.{HasTrack, changed_at, OnlyMarked, Counte
 use code::Sizes;
 
 // The changed mask and the number of changed cells.
-#[derive(Drop)]
+#[derive(Clone, Copy)]
 pub struct Changes {
     pub mask: u32,
     pub cells: u32,

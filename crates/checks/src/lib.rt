@@ -37,7 +37,7 @@ pub fn check_sizes(blocks: u32, input: usize, wanted: usize, room: usize, size: 
 }
 
 // What is said of an image: a number, or 0 and whether a cell of it is lost.
-#[derive(Drop)]
+#[derive(Clone, Copy)]
 pub struct Checked {
     pub answer: Answer,
     pub lost: bool,

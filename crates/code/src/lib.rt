@@ -6,7 +6,7 @@ ghost use Rattle.code.specs.Calls.{plain};
 ghost use Rattle.code.specs.Answers.{result_of};
 
 // The data tracks of set A and of set B, the data positions, and whether the tail is closed.
-#[derive(Drop)]
+#[derive(Clone, Copy)]
 pub struct Sizes {
     pub t1: usize,
     pub t2: usize,
@@ -42,7 +42,7 @@ pub fn reach_code(a: usize, b: usize) -> u8
 }
 
 // The extra tracks that are allowed, in A, in B and in all.
-#[derive(Drop)]
+#[derive(Clone, Copy)]
 pub struct Reach {
     pub a: usize,
     pub b: usize,
@@ -50,7 +50,7 @@ pub struct Reach {
 }
 
 // What reading a cell yields: a bit, 0 or 1, or a cell that the drive could not read.
-#[derive(Drop)]
+#[derive(Clone, Copy)]
 pub enum Reading {
     Zero,
     One,
@@ -86,7 +86,7 @@ pub fn is_lost(x: u8) -> bool
 
 // A pair of a table: the index of a stretch's first cell in the image, and the number of its cells.
 #[repr(C)]
-#[derive(Drop)]
+#[derive(Clone, Copy)]
 pub struct Span {
     pub offset: u32,
     pub length: u32,
@@ -94,7 +94,7 @@ pub struct Span {
 
 // What the writer of a cartridge file answers: 0 or a number, and the file's length.
 #[repr(C)]
-#[derive(Drop)]
+#[derive(Clone, Copy)]
 pub struct Written {
     pub answer: u32,
     pub length: u32,
@@ -102,7 +102,7 @@ pub struct Written {
 
 // What the reader of a cartridge file answers: 0 or a number, and an entry as a stretch of the file.
 #[repr(C)]
-#[derive(Drop)]
+#[derive(Clone, Copy)]
 pub struct Stretch {
     pub answer: u32,
     pub offset: u32,
@@ -111,21 +111,21 @@ pub struct Stretch {
 
 // 0 or a number, and how many entries a cartridge file has.
 #[repr(C)]
-#[derive(Drop)]
+#[derive(Clone, Copy)]
 pub struct Counted {
     pub answer: u32,
     pub entries: u32,
 }
 
 // No extra track, or one with its track number.
-#[derive(Drop)]
+#[derive(Clone, Copy)]
 pub enum Extra {
     None,
     Track(u32),
 }
 
 // What a call answers: 0 or a number, its detail, the changed mask and cells, and the extra of each set.
-#[derive(Drop)]
+#[derive(Clone, Copy)]
 pub struct Answer {
     pub number: u32,
     pub detail: u32,

@@ -10,7 +10,7 @@ ghost use Rattle.plans.specs.Plans.{ThreeOf, Inserted, pivot_at, second_at, Sort
 use code::Sizes;
 
 // The flagged tracks of a set, the highest first: 0 for none, t + 1 for track t.
-#[derive(Drop)]
+#[derive(Clone, Copy)]
 pub struct Three {
     pub high: usize,
     pub middle: usize,
@@ -71,14 +71,14 @@ pub fn find_three(marks: &[u8], z: Sizes, s: usize) -> Three
 }
 
 // The pivot of a set, and the cells up to which it may be wrong.
-#[derive(Drop)]
+#[derive(Clone, Copy)]
 pub struct Pivot {
     pub track: usize,
     pub room: usize,
 }
 
 // The pivots of A and of B. Of the tracks below them v is in set s and, if there are two, u in set q.
-#[derive(Drop)]
+#[derive(Clone, Copy)]
 pub struct Form {
     pub a: Pivot,
     pub b: Pivot,

@@ -5,14 +5,14 @@ ghost use Rattle.registers.specs.Steps.{SevenAt, Ordered, BlockBytes, CellsOf, P
 ghost use Rattle.registers.specs.Places.{Word, Low, High, Places, Shifted, BitsAt};
 
 // Two registers of fifteen partial sums, A's and B's.
-#[derive(Drop)]
+#[derive(Clone, Copy)]
 pub struct Registers {
     pub a: [u8; 15],
     pub b: [u8; 15],
 }
 
 // What enters the registers, place by place: cells of one position, or bytes that have the cells of eight.
-#[derive(Drop)]
+#[derive(Clone, Copy)]
 pub struct Column {
     pub a: [u8; 15],
     pub b: [u8; 15],

@@ -53,7 +53,7 @@ pub fn check(blocks: u32, flags: u32, image: &[u8], room: usize) -> Checked
 // ---- Working copies
 
 // For each set 0, t + 1 or 16: where tails of tracks without a mark were not 0, the one extra track that explains them, or none does.
-#[derive(Drop)]
+#[derive(Clone, Copy)]
 pub struct Needs {
     pub a: usize,
     pub b: usize,

@@ -16,7 +16,7 @@ use syndrome::Line;
 pub const NONE: usize = 16;
 
 // The flagged tracks of a set: the lowest, the highest data track, and the one that is left.
-#[derive(Drop)]
+#[derive(Clone, Copy)]
 pub struct Plan {
     pub low: usize,
     pub high: usize,

@@ -14,7 +14,7 @@ use code::Sizes;
 // ---- A run of 64 positions
 
 // Sums at 64 positions that follow one another.
-#[derive(Drop)]
+#[derive(Clone, Copy)]
 struct Run {
     sums: [u8; 64],
 }

@@ -134,7 +134,7 @@ pub fn add_any(out: &mut [u8], syn: &mut [u8], z: Sizes, s: usize, t: usize, p: 
 }
 
 // Where the cells of a track begin: in the image, and in the rows of its set's diagonal, of the other set's and of its vertical.
-#[derive(Drop)]
+#[derive(Clone, Copy)]
 pub struct Line {
     pub cell: usize,
     pub own: usize,

@@ -47,14 +47,14 @@ fn reach_within(code: u8, ceiling: usize) -> Reach
 // ---- Choices of extras
 
 // Whether a choice fits, and the form of its tracks.
-#[derive(Drop)]
+#[derive(Clone, Copy)]
 pub struct Trial {
     pub form: Form,
     pub fits: bool,
 }
 
 // A choice that fits, where one was found: 0 for no extra, t + 1 for track t.
-#[derive(Drop)]
+#[derive(Clone, Copy)]
 pub struct Hit {
     pub form: Form,
     pub a: usize,
