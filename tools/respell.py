@@ -46,8 +46,12 @@ def kit_names(text):
     return found
 
 
+# Own names that would fall together with one of the kit's.
+APART = {"bit-xor": "bit_of_xor", "bit-and": "bit_of_and"}
+
+
 def turned(name):
-    return name.replace("-", "_").replace("′", "'")
+    return APART.get(name) or name.replace("-", "_").replace("′", "'")
 
 
 def main():
@@ -62,6 +66,11 @@ def main():
     for n in own:
         fall.setdefault(turned(n), set()).add(n)
     bad = [k for k, v in fall.items() if len(v) > 1]
+    for p in files():
+        if p.endswith(".antt"):
+            text = bare(open(p, encoding="utf-8").read(), "--")
+            kit = kit_names(text)
+            bad += [turned(m[0]) for m in TOKEN.finditer(text) if m[0] in own and m[0] not in kit and turned(m[0]) in kit]
     if bad:
         print("respell: names fall together: " + ", ".join(sorted(bad)), file=sys.stderr)
         return 1

@@ -1,4 +1,6 @@
 // axp: repairs and traces one image that is read from standard input. Tracing has document 01's table: ceiling 2.
+#![tactic(auto)]
+
 ghost use Rattle.std.specs.Prelude.{◌<◌};
 
 use libc::{STDIN_FILENO, STDOUT_FILENO};

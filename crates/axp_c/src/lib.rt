@@ -1,4 +1,6 @@
 // The library for C: numbers, byte slices and a table of spans in, a struct of numbers out. include/axp.h declares these calls.
+#![tactic(auto)]
+
 ghost use Rattle.std.specs.Prelude.{◌≡◌};
 ghost use Rattle.code.specs.Promises.{Encoded, WasRead, Repaired, Traced, TracedWithin, SpansRepaired, WasPacked, WasUnpacked, FileWritten, FileCounted, EntryFound};
 ghost use Rattle.code.specs.Spans.{table_of};

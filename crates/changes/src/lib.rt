@@ -1,4 +1,6 @@
 // Changed cells: in which of the marked tracks two images differ, and in how many cells.
+#![tactic(auto)]
+
 ghost use Rattle.std.specs.Prelude.{◌≡◌};
 ghost use Rattle.code.specs.Sizes.{shape};
 ghost use Rattle.changes.specs.Changes.{HasTrack, changed_at, OnlyMarked, Counted};

@@ -1,5 +1,7 @@
 // The checks that calls share, numbers 1 to 4 in document 01's order: each answers the number of the first check that applies, and 0
 // where none does.
+#![tactic(auto)]
+
 ghost use Rattle.std.specs.Prelude.{◌≡◌, ◌+◌, ◌*◌, ◌≤◌};
 ghost use Rattle.code.specs.Lost.{bit_values, read_values};
 ghost use Rattle.code.specs.Numbers.{input_checks, size_checks, image_checks};

@@ -1,4 +1,6 @@
 // The sizes of a record, the table of reach codes and what they allow, what reading a cell yields, a pair of a table of stretches, and what a call answers.
+#![tactic(auto)]
+
 ghost use Rattle.std.specs.Prelude.{◌≡◌, ◌<◌};
 ghost use Rattle.code.specs.Lost.{byte_of, read_values, is_lost};
 ghost use Rattle.code.specs.Reach.{reach_code};

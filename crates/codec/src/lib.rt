@@ -1,4 +1,6 @@
 // Encoder and reader.
+#![tactic(auto)]
+
 ghost use Rattle.std.specs.Prelude.{◌≡◌, true, ℕ, ◌+◌, ◌*◌, ◌<◌, ◌≤◌, length, get_or};
 ghost use Rattle.code.specs.Record.{data_tracks, track_length};
 ghost use Rattle.code.specs.Image.{image_size, cells};

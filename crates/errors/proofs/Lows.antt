@@ -15,7 +15,7 @@ use Rattle.syndrome.specs.Syndrome.{set_of}
 use Rattle.plans.specs.declared.Form.{Form}
 use Rattle.plans.specs.Plans.{pivot, Sized}
 use Rattle.words.specs.Words.{bit, First, Fed}
-use Rattle.words.proofs.Bit.{bit_lt, bit_xor}
+use Rattle.words.proofs.Bit.{bit_lt, bit_of_xor}
 use Rattle.forms.specs.Streams.{Stream, cut}
 use Rattle.forms.specs.Forms.{left, met, gap}
 use Rattle.forms.specs.Found.{extent, at_zero, low_sum, ahead, across, lower_row, residue}
@@ -64,7 +64,7 @@ module _ (z : Sizes) (end : ℕ) (p : Form) (rows found : List ℕ) where
       next_fed _ _ _ 64 i _ _ _ (b + c - (a + p.v)) x l fed
       (λ k b' h. omega (
         arith,
-        bit_xor r₁ r₂ k,
+        bit_of_xor r₁ r₂ k,
         shown_at _ _ _ _ (rw (o, n.a_is) at h₁) k (64 * i + k + ahead (shape z) end p) b' (omega arith) (omega (arith, n.met)),
         shown_back _ _ _ _ (rw (n.a_is, n.b_is) at h₂) k (64 * i + k + ahead (shape z) end p + p.v) (across (shape z) end p) b' (omega arith) (omega (arith, n.met)),
       ))

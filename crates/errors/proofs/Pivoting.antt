@@ -17,7 +17,7 @@ use Rattle.syndrome.specs.Syndrome.{set_of, row_of}
 use Rattle.plans.specs.declared.Form.{Form}
 use Rattle.plans.specs.Plans.{pivot, room}
 use Rattle.words.specs.Words.{bit, First}
-use Rattle.words.proofs.Bit.{bit_lt, bit_zero, bit_xor}
+use Rattle.words.proofs.Bit.{bit_lt, bit_zero, bit_of_xor}
 use Rattle.solver.proofs.Sets.{own_row}
 use Rattle.forms.specs.Streams.{Stream, cut}
 use Rattle.forms.specs.Forms.{left, met}
@@ -147,7 +147,7 @@ module _ (z : Sizes) (end : ℕ) (p : Form) (rows found : List ℕ) (c i : ℕ) 
   half_on h e = record {
     cells = λ k l. omega (
       arith,
-      bit_xor (get_or rows (34 * (2 + c) + 1 + i) 0) (get_or found (35 + i) 0) k,
+      bit_of_xor (get_or rows (34 * (2 + c) + 1 + i) 0) (get_or found (35 + i) 0) k,
       cell_index rows (2 + c) i k (64 * i + k) (34 * (2 + c) + 1 + i) short l refl refl,
       cell_index found 1 i k (64 * i + k) (35 + i) short l refl (omega arith),
       low_one p.below (of_v p found c (64 * i + k)) 0 h,
@@ -173,7 +173,7 @@ module _ (z : Sizes) (end : ℕ) (p : Form) (rows found : List ℕ) (c i : ℕ) 
     whole_on h e = record {
       cells = λ k l. rw (own_row c small) (omega (
         arith,
-        bit_xor w (get_or found (1 + i) 0) k,
+        bit_of_xor w (get_or found (1 + i) 0) k,
         half.cells k l,
         cell_index found 0 i k (64 * i + k) (1 + i) short l refl (omega arith),
         low_two p.below (of_v p found c (64 * i + k)) (of_u p found c (64 * i + k)) h,

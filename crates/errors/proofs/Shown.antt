@@ -6,7 +6,7 @@ use lib.Bits.{bit_xor}
 use Rattle.code.specs.Record.{back}
 use Rattle.code.proofs.Sums.{back_at, back_add, back_mod, back_same}
 use Rattle.words.specs.Words.{bit}
-use Rattle.words.proofs.Bit.{bit_xor}
+use Rattle.words.proofs.Bit.{bit_of_xor}
 use Rattle.forms.specs.Streams.{Stream}
 use Rattle.forms.proofs.Shifts.{back_move}
 use Rattle.errors.specs.Rows.{Shown}
@@ -14,7 +14,7 @@ use Rattle.errors.specs.Rows.{Shown}
 -- The sum of two streams.
 pub shown_xor : (n : ℕ) (f g : Stream) (at a b : ℕ) → Shown n f at a → Shown n g at b → Shown n (λ m. f m + g m) at (bit_xor a b)
 shown_xor n f g at a b p q = record {
-  cells = λ k l h. omega (arith, bit_xor a b k, p.cells k l h, q.cells k l h, back_add f g (at + k) 64);
+  cells = λ k l h. omega (arith, bit_of_xor a b k, p.cells k l h, q.cells k l h, back_add f g (at + k) 64);
 }
 
 -- Streams that are the same modulo 2.

@@ -15,7 +15,7 @@ use Rattle.code.proofs.OneTrack.{offset, offset_both}
 use Rattle.syndrome.specs.Syndrome.{set_of}
 use Rattle.plans.specs.declared.Form.{Form}
 use Rattle.words.specs.Words.{bit, First}
-use Rattle.words.proofs.Bit.{bit_lt, bit_xor}
+use Rattle.words.proofs.Bit.{bit_lt, bit_of_xor}
 use Rattle.forms.specs.Streams.{Stream, cut}
 use Rattle.forms.specs.Forms.{left}
 use Rattle.forms.specs.Found.{extent, at_zero, lower_row, residue}
@@ -125,8 +125,8 @@ module _ (z : Sizes) (end : ℕ) (p : Form) (rows : List ℕ) where
       put_cells : (k : ℕ) → k < 64 → cell after 0 (64 * i + k) ≡ (cell found 0 (64 * i + k) + (bit r k + bit f k)) % 2
       put_cells k b = put.here k b ∙ omega (
         arith,
-        bit_xor (get_or found (1 + i) 0) (bit_xor r f) k,
-        bit_xor r f k,
+        bit_of_xor (get_or found (1 + i) 0) (bit_xor r f) k,
+        bit_of_xor r f k,
         cell_index found 0 i k (64 * i + k) (1 + i) short b refl (omega arith),
       )
 

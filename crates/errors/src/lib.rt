@@ -1,4 +1,6 @@
 // The errors on flagged tracks by the closed forms, 64 cells at a time.
+#![tactic(auto)]
+
 ghost use Rattle.std.specs.Prelude.{◌≡◌, ℕ, ◌+◌, ◌*◌, ◌-◌, ◌<◌, ◌≤◌, length, get_or};
 ghost use Rattle.code.specs.Record.{data_tracks, lag, track_length};
 ghost use Rattle.code.specs.Sizes.{shape, Small};

@@ -1,4 +1,6 @@
 // Cartridge files: numbers in bytes, the rules of a file, its number of entries and an entry of it.
+#![tactic(auto)]
+
 ghost use Rattle.std.specs.Prelude.{◌≡◌, ◌+◌, ◌*◌, ◌≤◌, length};
 ghost use Rattle.code.specs.Files.{number, Entry, Cartridge};
 ghost use Rattle.code.specs.Calls.{no_stretch};

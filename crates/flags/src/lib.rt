@@ -1,4 +1,6 @@
 // Flagged tracks: the marks of a flag word and of the tracks with a lost cell, and the code of the marks.
+#![tactic(auto)]
+
 ghost use Rattle.std.specs.Prelude.{◌≡◌, ◌+◌, ◌*◌, ◌≤◌, length};
 ghost use Rattle.code.specs.Image.{all_tracks};
 ghost use Rattle.code.specs.Reach.{pick, flags_code};

@@ -1,4 +1,6 @@
 // Between bytes and words: the rows of sums are loaded, the errors are added to their tracks, the tails are cleared.
+#![tactic(auto)]
+
 ghost use Rattle.std.specs.Prelude.{◌≡◌, ℕ, ◌+◌, ◌*◌, ◌/◌, ◌<◌, ◌≤◌, length};
 ghost use Rattle.code.specs.Record.{TrackSet, track_length, tail_tracks};
 ghost use Rattle.code.specs.Image.{all_tracks};

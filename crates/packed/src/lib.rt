@@ -1,4 +1,6 @@
 // Packing and unpacking: an image's tracks in head order, eight cells a byte.
+#![tactic(auto)]
+
 ghost use Rattle.std.specs.Prelude.{◌≡◌, ℕ, ◌+◌, ◌*◌, ◌<◌, ◌≤◌, length, get_or};
 ghost use Rattle.code.specs.Payload.{digits};
 ghost use Rattle.code.specs.Promises.{WasPacked, WasUnpacked};

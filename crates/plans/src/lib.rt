@@ -1,4 +1,6 @@
 // The flagged tracks of a record, sorted: each set's highest is its pivot, and the tracks below the pivots are at most two.
+#![tactic(auto)]
+
 ghost use Rattle.std.specs.Prelude.{◌≡◌, ◌<◌, ◌≤◌, length};
 ghost use Rattle.code.specs.Image.{all_tracks};
 ghost use Rattle.code.specs.Flags.{flag_count};

@@ -1,4 +1,6 @@
 // The encoder's registers, the source's figure 4: partial sums of the diagonals ahead, handed from position to position.
+#![tactic(auto)]
+
 ghost use Rattle.std.specs.Prelude.{◌≡◌, [], ◌∷◌, ◌+◌, ◌*◌, ◌<◌, ◌≤◌, length};
 ghost use Rattle.registers.specs.Register.{Stepped};
 ghost use Rattle.registers.specs.Steps.{SevenAt, Ordered, BlockBytes, CellsOf, Passed, TwoPassed, TailPassed, Stretches, Passing, Carried};

@@ -1,4 +1,6 @@
 // Repairer, and what the tracer shares with it: the checks, and working copies with their sums.
+#![tactic(auto)]
+
 ghost use Rattle.std.specs.Prelude.{◌≡◌, ◌≤◌, length};
 ghost use Rattle.code.specs.Record.{base};
 ghost use Rattle.code.specs.Image.{all_tracks, image_size, cells};

@@ -1,4 +1,6 @@
 // The steps of one position, for flags by stretch: the flagged cells of a set are made right by turning over those whose syndrome is not 0.
+#![tactic(auto)]
+
 ghost use Rattle.std.specs.Prelude.{◌≡◌, true, ◌+◌, ◌*◌, ◌<◌, ◌≤◌, length, get_or};
 ghost use Rattle.code.specs.Record.{data_tracks, tracks, track_length};
 ghost use Rattle.code.specs.Image.{all_tracks, cells};

@@ -1,4 +1,6 @@
 // Repair with flags by stretch.
+#![tactic(auto)]
+
 ghost use Rattle.std.specs.Prelude.{◌≡◌, List, [], ◌∷◌, ◌*◌, length};
 ghost use Rattle.code.specs.Record.{base, track_length};
 ghost use Rattle.code.specs.Image.{image_size, cells};

@@ -1,4 +1,6 @@
 // The solver for flagged cells: first the sets with one flagged cell at a position, at all positions, then the others, position by position.
+#![tactic(auto)]
+
 ghost use Rattle.std.specs.Prelude.{◌≡◌, true, ◌<◌, ◌≤◌, length};
 ghost use Rattle.code.specs.Record.{track_length};
 ghost use Rattle.code.specs.Image.{all_tracks};

@@ -1,5 +1,7 @@
 // The syndromes of an image. Diagonals are summed in the order in which the cells arrive, A0, B0, A1, B1 and so on. A run of 64
 // positions is summed over all tracks before its sums are stored, once.
+#![tactic(auto)]
+
 ghost use Rattle.std.specs.Prelude.{◌≡◌, ◌+◌, ◌*◌, ◌<◌, ◌≤◌, suc, length};
 ghost use Rattle.code.specs.Record.{data_tracks, lag, track_length, diagonal, vertical};
 ghost use Rattle.code.specs.Heads.{slope, before, after, running};

@@ -1,4 +1,6 @@
 // What the syndromes of an image are, and the functions that change a cell and keep them.
+#![tactic(auto)]
+
 ghost use Rattle.std.specs.Prelude.{◌≡◌, true, ◌+◌, ◌*◌, ◌<◌, ◌≤◌, length, get_or};
 ghost use Rattle.code.specs.Record.{track_length, vertical_end, tail_tracks};
 ghost use Rattle.track.specs.Track.{Bits};

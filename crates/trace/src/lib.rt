@@ -1,4 +1,6 @@
 // Tracer: the choices of extra tracks that a reach allows, one after the other.
+#![tactic(auto)]
+
 ghost use Rattle.std.specs.Prelude.{◌≡◌, ◌+◌, ◌≤◌, min, length};
 ghost use Rattle.code.specs.Reach.{code_reach, size, ceiling_reach, both};
 ghost use Rattle.code.specs.Calls.{Traces};

@@ -1,4 +1,6 @@
 // Functions on one track's stretch of an image.
+#![tactic(auto)]
+
 ghost use Rattle.std.specs.Prelude.{◌≡◌, ℕ, suc, ◌+◌, ◌*◌, ◌-◌, ◌/◌, ◌%◌, ◌^◌, ◌<◌, ◌≤◌, length, get_or};
 ghost use Rattle.code.specs.Lost.{read_values};
 ghost use Rattle.code.specs.Calls.{differ};

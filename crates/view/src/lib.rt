@@ -1,4 +1,6 @@
 // Track view.
+#![tactic(auto)]
+
 ghost use Rattle.code.specs.Promises.{Viewed};
 
 // The stretch of track number g of the caller's own image, or an empty part.

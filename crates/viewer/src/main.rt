@@ -2,6 +2,8 @@
 // count, an image's length, a track number, and the part that is handed over for them; cell i of the image is the letter i % 64 of a
 // row of 64, so that a part tells where it begins. Of the reader of a cartridge file a line has the file's length, an index, the
 // length of the part and the part.
+#![tactic(auto)]
+
 use libc::STDOUT_FILENO;
 
 fn number(n: u64) {

@@ -1,4 +1,6 @@
 // Flags by stretch: the test of a table of pairs, the words of the cells that it flags, a word a position, and the windows of the positions.
+#![tactic(auto)]
+
 ghost use Rattle.std.specs.Prelude.{◌≡◌, ◌+◌, ◌*◌, ◌^◌, ◌<◌, ◌≤◌, length};
 ghost use Rattle.code.specs.Record.{track_length};
 ghost use Rattle.code.specs.Image.{image_size};

@@ -9,7 +9,7 @@ use lib.Bits.{bit_xor}
 use Rattle.code.specs.Record.{back}
 use Rattle.code.proofs.Sums.{back_at, back_early, back_same, back_back}
 use Rattle.words.specs.Words.{bit, bit_at, Window, First}
-use Rattle.words.proofs.Bit.{bit_lt, bit_zero, bit_high, bit_xor, bit_shr, bit_shl, cell_in}
+use Rattle.words.proofs.Bit.{bit_lt, bit_zero, bit_high, bit_of_xor, bit_shr, bit_shl, cell_in}
 
 -- ## The first cells
 
@@ -53,7 +53,7 @@ module _ (ws : List ℕ) (at : ℕ) (words : (i : ℕ) → get_or ws i 0 < 2 ^ 6
       let s = bit_shl_more high (63 - at % 64) k h in
       omega (
         arith,
-        bit_xor (low / 2 ^ (at % 64)) (high * 2 % 2 ^ 64 * 2 ^ (63 - at % 64) % 2 ^ 64) k,
+        bit_of_xor (low / 2 ^ (at % 64)) (high * 2 % 2 ^ 64 * 2 ^ (63 - at % 64) % 2 ^ 64) k,
         bit_shr low (at % 64) k,
       )
 

@@ -1,4 +1,6 @@
 // Cells in words, 64 to a word: shifted, divided, loaded from bytes and written to them.
+#![tactic(auto)]
+
 ghost use Rattle.std.specs.Prelude.{◌≡◌, ℕ, ◌+◌, ◌*◌, ◌<◌, ◌≤◌, length, get_or};
 ghost use Rattle.track.specs.Track.{Bits};
 ghost use Rattle.words.specs.Words.{

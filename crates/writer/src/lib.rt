@@ -1,4 +1,6 @@
 // Writer of a cartridge file.
+#![tactic(auto)]
+
 ghost use Rattle.std.specs.Prelude.{◌≡◌, ◌++◌, ◌+◌, ◌*◌, ◌≤◌, length};
 ghost use Rattle.code.specs.Files.{bytes_of, entry_blocks, entry_size, directory_size, most_entries, most_bytes, HasRoom, cut, directory, file_of};
 ghost use Rattle.code.specs.Numbers.{Passed};
