@@ -180,17 +180,26 @@ def convert(crate, fn, d, p, text, x, table):
     loopsteps = {n for (o, n), vs in x['loops']}
     def fields(t):
         t = re.sub(r"(?:\.before)+(?![\w'-])", '', t)
+        while True:
+            m = re.search(r"let ([\w'₀-₉]+) = c in\s*", t)
+            if not m: break
+            t = t[:m.start()] + re.sub(r"(?<![\w'.-])%s(?![\w'-])" % re.escape(m[1]), 'c', t[m.end():])
         al = {m[1] for m in re.finditer(r"let ([\w'₀-₉]+)(?: : [^=\n]*)? = [\w.'-]+?\.([\w-]+) in", t)}
         t = re.sub(r"\(not-(?:true|false) _ ([\w.'-]+)\)", r"\1", t)
         # aliases of contexts: let a = c.STEP... ; track alias -> callee
-        calias = {}
+        calias = {}; short = []
         for m in re.finditer(r"let ([\w'₀-₉]+) = ([\w.'-]+) in", t):
             ch = m[2].split('.')
-            if len(ch) > 1 and ch[-1] == 'requires' and pre and len(pre['fields']) > 1: calias[m[1]] = pre['fields']
+            k = 0
+            while ch and ch[-1] == '1': ch.pop(); k += 1
+            if len(ch) < 2 or ch[-1] not in ('requires', 'pre', 'ensures'): continue
+            if ch[-1] == 'pre': ch[-1] = 'requires'
+            if len(ch) > 1 and ch[-1] == 'requires' and pre and len(pre['fields']) > 1: calias[m[1]] = pre['fields'][k:]; short.append((m[0], 'let %s = %s in' % (m[1], '.'.join(ch))))
             if len(ch) > 2 and ch[-1] == 'ensures' and NORM(ch[-2]) in step:
                 cal = step[NORM(ch[-2])][1]
                 e = table.get(cal, ([], [], [], []))[1] if cal else []
-                if len(e) > 1: calias[m[1]] = e
+                if len(e) > 1: calias[m[1]] = e[k:]; short.append((m[0], 'let %s = %s in' % (m[1], '.'.join(ch))))
+        for a, b in short: t = t.replace(a, b)
         out = []
         def repl(m):
             chain = m[0].split('.')
@@ -305,6 +314,9 @@ def convert(crate, fn, d, p, text, x, table):
             t = t[:m.start()] + 'elim %s.branch [ then-%s %s | else-%s %s ]' % (m3[1], cond, arm(va, A), cond, arm(vb, B)) + t[m3.end():]
     def records(new, bd):
         names = x['asked'].get(new)
+        if not names:
+            for o, n in x['needs']:
+                if n == new: names = x['asked'].get(o)
         if not names and '-requires' in new:
             f = [o for o, n in x['needs'] if n == new]
             f = re.sub(r"-requires(-\d+)?$", '', f[0]) if f else ''
