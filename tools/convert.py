@@ -168,6 +168,20 @@ def convert(crate, fn, d, p, text, x, table):
             continue
         else:
             helpers.append((name, com, decl))
+    same = set()
+    for name, com, decl in helpers:
+        if name and not name.startswith('\x00'):
+            nd = re.sub(r"(?:\.before)+(?![\w'-])", '', decl).strip()
+            if re.fullmatch(r"(?:abbrev |pub |unfoldable )*%s : (?:\{[^}]*\} → )?tie\.\S+(?: (?:invariant|decreases)\S+)*\s*→\s*tie\.\S+(?: (?:invariant|decreases)\S+)*\n%s (\w+) = \1" % (re.escape(name), re.escape(name)), nd, re.S): same.add(name)
+    helpers = [h for h in helpers if h[0] not in same]
+    def alike(t):
+        t = re.sub(r"(?:\.before)+(?![\w'-])", '', t)
+        for name in same:
+            t = re.sub(r"\(%s ([\w']+)\)" % re.escape(name), r"\1", t)
+            t = re.sub(r"(?<![\w'.-])%s ([\w']+)(?![\w'.-])" % re.escape(name), r"\1", t)
+        return t
+    helpers = [(a, b, alike(c)) for a, b, c in helpers]
+    answers = [(a, b, c, alike(d)) for a, b, c, d in answers]
     invnames = set(inv)
     nargs = [a for a in args if a not in invnames]
     bypos = {}
@@ -271,6 +285,8 @@ def convert(crate, fn, d, p, text, x, table):
         want = [('l.initial.' + v if c else 'l.' + v) for v, c in zip(vs, ch)] + ['l.' + v for v, c in zip(vs, ch) if c]
         if len(an) != len(want):
             itext.append('-- TODO arity %s %s\n%s' % (an, want, decl)); continue
+        an = [a.strip('«»') for a in an]
+        bd = bd.replace('«', '').replace('»', '')
         mp = dict(zip(an, want))
         bd = re.sub(r"(?<![\w'.₀-₉-])([^\W\d][\w'₀-₉]*(?:-[\w'₀-₉]+)*)", lambda m: mp.get(m[1], m[1]), bd)
         extra = re.search(r"(?m)^unfolding .*$", decl)
@@ -384,24 +400,13 @@ def convert(crate, fn, d, p, text, x, table):
         kept.append((new, ('\n'.join(com) + '\n' if com else '') + 'pub %s : goal.%s\n%s%s%s =%s' % (new, new, unf, new, ''.join(' ' + v for v in a), records(new, elims(refs(fields(bd)))))))
     byplace = {NORM(pl[0]): x['places_by_name'][i] for i, pl in enumerate(places)}
     # helpers over a context: told where they are used
-    ctx = {}; same = set()
+    ctx = {}
     for name, com, decl in helpers:
         if name and not name.startswith('\x00'):
             nd = elims(refs(fields(decl)))
-            m = re.fullmatch(r"(?:abbrev |pub |unfoldable )*%s : \(c : tie\.[^)]*\) →\s*(.*?)\n(?:unfolding [^\n]*\n)?%s c =(.*)" % (re.escape(name), re.escape(name)), nd, re.S)
-            if m: ctx[name] = (m[1], m[2])
-            m = re.fullmatch(r"(?:abbrev |pub |unfoldable )*%s : \(c : tie\.[^)]*\) →\s*((?:\([^()]*\) → |[^→\n]*→ )*.*?)\n%s c ([^=\n]+) =(.*)" % (re.escape(name), re.escape(name)), nd, re.S)
-            if m: ctx[name] = (m[1], 'λ ' + m[2].strip() + '. ' + m[3].strip())
-            m = re.fullmatch(r"(?:abbrev |pub |unfoldable )*%s : tie\.\S+(?: (?:invariant|decreases)\S+)* → tie\.\S+(?: (?:invariant|decreases)\S+)*\n%s c = c" % (re.escape(name), re.escape(name)), nd.strip(), re.S)
-            if m: same.add(name)
-    helpers = [h for h in helpers if h[0] not in ctx and h[0] not in same]
-    def alike(t):
-        for name in same:
-            t = re.sub(r"\(%s ([\w']+)\)" % re.escape(name), r"\1", t)
-            t = re.sub(r"(?<![\w'.-])%s ([\w']+)(?![\w'.-])" % re.escape(name), r"\1", t)
-        return fields(t)
-    ctx = {k: (alike(a), alike(b)) for k, (a, b) in ctx.items()}
-    kept = [(a, alike(b)) for a, b in kept]
+            m = re.fullmatch(r"(?:abbrev |pub |unfoldable )*%s : \(c : tie\.[^)]*\)\s*(?:→\s*)?(.*?)\n(?:unfolding ([^\n]*)\n)?%s c((?: [^=\n]+)?) =(.*)" % (re.escape(name), re.escape(name)), nd, re.S)
+            if m: ctx[name] = (m[1], ('λ ' + m[3].strip() + '. ' if m[3].strip() else '') + m[4].strip(), m[2])
+    helpers = [h for h in helpers if h[0] not in ctx]
     def inline(t):
         for _ in range(8):
             hit = None
@@ -409,9 +414,12 @@ def convert(crate, fn, d, p, text, x, table):
                 if re.search(r"(?<![\w'.-])%s c(?![\w'.-])" % re.escape(name), t):
                     hit = name; break
             if not hit: break
-            T, B = ctx[hit]
+            T, B, U = ctx[hit]
+            if U:
+                t = re.sub(r"(?m)^unfolding ([^\n]*)\n", lambda m: 'unfolding ' + m[1] + ''.join(' ' + u for u in U.split() if u not in m[1].split()) + '\n', t, 1) if re.search(r"(?m)^unfolding ", t) else re.sub(r"(?m)^(pub [^\n]* : goal[^\n]*\n)", lambda m: m[1] + 'unfolding ' + U + '\n', t, 1)
             loc = hit.replace('-', '_') + '_here'
             t = re.sub(r"\(%s c\)|(?<![\w'.-])%s c(?![\w'.-])" % (re.escape(hit), re.escape(hit)), loc, t)
+            t = re.sub(r"(?<![\w'.-])%s c(?![\w'-])" % re.escape(hit), loc, t)
             m = re.search(r"(?m)^(?!pub)[^\s]+ c(?: [^=\n]*)? =", t)
             if not m: break
             rest = t[m.end():]
