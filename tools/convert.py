@@ -168,6 +168,25 @@ def convert(crate, fn, d, p, text, x, table):
             continue
         else:
             helpers.append((name, com, decl))
+    # helpers that only go back to an earlier context fall away first
+    strip = lambda t: re.sub(r"(?:\.before)+(?![\w'-])", '', t)
+    same = set()
+    def alike(t):
+        t = strip(t)
+        while True:
+            o = t
+            for name in same:
+                t = re.sub(r"\(%s ([\w']+)\)" % re.escape(name), r"\1", t)
+                t = re.sub(r"(?<![\w'.-])%s ([\w']+)(?![\w'.-])" % re.escape(name), r"\1", t)
+            if o == t: return strip(t)
+    while True:
+        n = len(same)
+        for name, com, decl in helpers:
+            if name and not name.startswith('\x00') and name not in same and re.fullmatch(r"(?:abbrev |pub |unfoldable )*%s : tie\.\S+(?: (?:invariant|decreases)\S+)* → tie\.\S+(?: (?:invariant|decreases)\S+)*\n%s c = c" % (re.escape(name), re.escape(name)), alike(decl).strip(), re.S): same.add(name)
+        if n == len(same): break
+    helpers = [(a, c, alike(d)) for a, c, d in helpers if a not in same]
+    answers = [(a, t, c, alike(d)) for a, t, c, d in answers]
+    inv = {k: (c, alike(d), t) for k, (c, d, t) in inv.items()}
     invnames = set(inv)
     nargs = [a for a in args if a not in invnames]
     bypos = {}
@@ -214,7 +233,7 @@ def convert(crate, fn, d, p, text, x, table):
                 if fld: return '.'.join([chain[0], fld] + rest + chain[j:])
             while i < len(chain):
                 f = chain[i]
-                if chain[0] in al or (i > 1 and f not in ('ensures', 'new', 'requires')):
+                if chain[0] in al or (i > 1 and f not in ('ensures', 'new', 'requires', 'auto')):
                     res += chain[i:]; break
                 if NORM(f) in typed and chain[i+1:i+2] == ['given']:
                     res += ['type_inv', typed[NORM(f)]]; i += 2; continue
@@ -247,11 +266,20 @@ def convert(crate, fn, d, p, text, x, table):
                         fld, rest = nested(ens, path)
                         if fld:
                             res += ['ensures', fld] + rest; i = j; continue
+                if f == 'auto' and callee and chain[i+1:i+2] in (['0'], ['1']):
+                    mut = table.get(callee, ([], [], [], []))[3]
+                    k = 0; j = i + 1
+                    while j < len(chain) and chain[j] == '1': k += 1; j += 1
+                    if j < len(chain) and chain[j] == '0': j += 1
+                    if k < len(mut):
+                        res += ['auto', mut[k]] + chain[j:]; i = len(chain); break
                 if f == 'new' and callee and i + 1 < len(chain) and chain[i+1].isdigit():
                     mut = table.get(callee, ([], [], [], []))[3]
-                    k = int(chain[i+1])
+                    k = 0; j = i + 1
+                    while j < len(chain) and chain[j] == '1': k += 1; j += 1
+                    if j < len(chain) and chain[j] == '0': j += 1
                     if k < len(mut):
-                        res += ['new', mut[k]]; i += 2; continue
+                        res += ['new', mut[k]] + chain[j:]; i = len(chain); break
                 res.append(f); i += 1
             return '.'.join(res)
         return re.sub(r"(?<![\w'.-])[^\W\d][\w'₀-₉]*(?:\.[\w'₀-₉+-]+)+", repl, t)
@@ -384,7 +412,7 @@ def convert(crate, fn, d, p, text, x, table):
         kept.append((new, ('\n'.join(com) + '\n' if com else '') + 'pub %s : goal.%s\n%s%s%s =%s' % (new, new, unf, new, ''.join(' ' + v for v in a), records(new, elims(refs(fields(bd)))))))
     byplace = {NORM(pl[0]): x['places_by_name'][i] for i, pl in enumerate(places)}
     # helpers over a context: told where they are used
-    ctx = {}; same = set()
+    ctx = {}
     for name, com, decl in helpers:
         if name and not name.startswith('\x00'):
             nd = elims(refs(fields(decl)))
@@ -392,16 +420,7 @@ def convert(crate, fn, d, p, text, x, table):
             if m: ctx[name] = (m[1], m[2])
             m = re.fullmatch(r"(?:abbrev |pub |unfoldable )*%s : \(c : tie\.[^)]*\) →\s*((?:\([^()]*\) → |[^→\n]*→ )*.*?)\n%s c ([^=\n]+) =(.*)" % (re.escape(name), re.escape(name)), nd, re.S)
             if m: ctx[name] = (m[1], 'λ ' + m[2].strip() + '. ' + m[3].strip())
-            m = re.fullmatch(r"(?:abbrev |pub |unfoldable )*%s : tie\.\S+(?: (?:invariant|decreases)\S+)* → tie\.\S+(?: (?:invariant|decreases)\S+)*\n%s c = c" % (re.escape(name), re.escape(name)), nd.strip(), re.S)
-            if m: same.add(name)
-    helpers = [h for h in helpers if h[0] not in ctx and h[0] not in same]
-    def alike(t):
-        for name in same:
-            t = re.sub(r"\(%s ([\w']+)\)" % re.escape(name), r"\1", t)
-            t = re.sub(r"(?<![\w'.-])%s ([\w']+)(?![\w'.-])" % re.escape(name), r"\1", t)
-        return fields(t)
-    ctx = {k: (alike(a), alike(b)) for k, (a, b) in ctx.items()}
-    kept = [(a, alike(b)) for a, b in kept]
+    helpers = [h for h in helpers if h[0] not in ctx]
     def inline(t):
         for _ in range(8):
             hit = None
