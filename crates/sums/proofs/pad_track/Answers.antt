@@ -10,43 +10,43 @@ use Rattle.sums.proofs.pad_track.Goals as goal
 pub overflow_mul-from : goal.overflow_mul-from
 overflow_mul-from c =
     let source_room_here : let a = c.args in a.g * track_length (shape a.z) + track_length (shape a.z) ≤ length a.image.now =
-        let p = c.requires in track_room _ _ _ _ p.image p.g_bound p.padded in
+    let p = c.requires in track_room _ _ _ _ p.image p.g_bound p.padded in
     omega (arith, source_room_here)
 
 pub overflow_mul-start : goal.overflow_mul-start
 overflow_mul-start c =
     let room_here : let a = c.args in first_cell a.z a.g + 80 ≤ length a.padded.now =
-        let p = c.requires in cells_room _ _ _ _ p.image p.g_bound p.padded in
+    let p = c.requires in cells_room _ _ _ _ p.image p.g_bound p.padded in
     omega (arith, room_here)
 
 pub overflow_add-start-2 : goal.overflow_add-start-2
 overflow_add-start-2 c =
     let room_here : let a = c.args in first_cell a.z a.g + 80 ≤ length a.padded.now =
-        let p = c.requires in cells_room _ _ _ _ p.image p.g_bound p.padded in
+    let p = c.requires in cells_room _ _ _ _ p.image p.g_bound p.padded in
     omega (arith, room_here)
 
 pub overflow_add-end : goal.overflow_add-end
 overflow_add-end c =
     let room_here : let a = c.args in first_cell a.z a.g + 80 ≤ length a.padded.now =
-        let p = c.requires in cells_room _ _ _ _ p.image p.g_bound p.padded in
+    let p = c.requires in cells_room _ _ _ _ p.image p.g_bound p.padded in
     omega (arith, room_here)
 
 pub slice_bounds-copy_first-end : goal.slice_bounds-copy_first-end
 slice_bounds-copy_first-end c =
     let room_here : let a = c.args in first_cell a.z a.g + 80 ≤ length a.padded.now =
-        let p = c.requires in cells_room _ _ _ _ p.image p.g_bound p.padded in
+    let p = c.requires in cells_room _ _ _ _ p.image p.g_bound p.padded in
     room_here
 
 pub slice_bounds-copy_first-count-2 : goal.slice_bounds-copy_first-count-2
 slice_bounds-copy_first-count-2 c =
     let source_room_here : let a = c.args in a.g * track_length (shape a.z) + track_length (shape a.z) ≤ length a.image.now =
-        let p = c.requires in track_room _ _ _ _ p.image p.g_bound p.padded in
+    let p = c.requires in track_room _ _ _ _ p.image p.g_bound p.padded in
     omega (arith, source_room_here)
 
 pub slice_bounds-copy_first-start-2 : goal.slice_bounds-copy_first-start-2
 slice_bounds-copy_first-start-2 c =
     let source_room_here : let a = c.args in a.g * track_length (shape a.z) + track_length (shape a.z) ≤ length a.image.now =
-        let p = c.requires in track_room _ _ _ _ p.image p.g_bound p.padded in
+    let p = c.requires in track_room _ _ _ _ p.image p.g_bound p.padded in
     omega (arith, source_room_here)
 
 pub returns : goal.returns

@@ -1,5 +1,5 @@
 use mathlib.Core.Path.{◌≡◌, refl, sym}
-use Prim.Native.Nat.{ℕ, ◌+◌, ◌*◌, ◌-◌, ◌≤◌}
+use Prim.Native.Nat.{ℕ, ◌+◌, ◌*◌, ◌≤◌}
 use native.Mathlib.Omega.{arith}
 use borrow.Author.Rules.{rules}
 use lib.ListN.{length-replicate}
@@ -28,19 +28,19 @@ loop-r-init c = (search rules, copied_none _ _ _ c.requires.syn_len)
 pub overflow_mul-start : goal.overflow_mul-start
 overflow_mul-start c =
     let room_here : let n = track_length (shape c.args.z) in c.loop-r.r * n + n ≤ 4 * n =
-        row_end _ _ 4 (search rules) in
+    row_end _ _ 4 (search rules) in
     search (rules, room_here)
 
 pub overflow_add-end : goal.overflow_add-end
 overflow_add-end c =
     let room_here : let n = track_length (shape c.args.z) in c.loop-r.r * n + n ≤ 4 * n =
-        row_end _ _ 4 (search rules) in
+    row_end _ _ 4 (search rules) in
     search (rules, room_here)
 
 pub slice_bounds-copy_into-end : goal.slice_bounds-copy_into-end
 slice_bounds-copy_into-end c =
     let room_here : let n = track_length (shape c.args.z) in c.loop-r.r * n + n ≤ 4 * n =
-        row_end _ _ 4 (search rules) in
+    row_end _ _ 4 (search rules) in
     search (rules, room_here)
 
 pub loop-r-preserved : goal.loop-r-preserved
