@@ -12,6 +12,7 @@ To n a₀ b₀ first j a b r = TailTo n a₀ b₀ first (8 * n + j) a b r
 
 pub returns : goal.returns
 returns c =
+    -- The tail so far, after each call.
     let to_2 : To c.args.blocks c.args.a.now c.args.b.now c.args.first 2 c.pass_two-r2.new.a c.pass_two-r2.new.b c.pass_two-r2.result =
     two_more _ _ _ _ _ _ _ _ (record { small = c.requires.blocks_bound; from = omega arith; size_a = c.requires.a_len; size_b = c.requires.b_len; passing = λ payload p. p })
     _ _ _ c.pass_two-r2.auto.a c.pass_two-r2.auto.b _ (omega arith) (omega arith) c.pass_two-r2.ensures in
