@@ -5,13 +5,15 @@ use Rattle.mend.proofs.add_error.Goals as goal
 
 pub add_row-requires : goal.add_row-requires
 add_row-requires c =
-    let p = c.requires in (
-      p.cells_len,
-      (
-        record { bit = p.image.bits },
-        (omega (arith, c.track_number.ensures.room, p.image.size), (omega (arith, p.track.small.positions_small), p.1.1.1)),
-      ),
-    )
+    let p = c.requires in
+    record {
+      cells_len = p.cells_len;
+      bits = record { bit = p.image.bits };
+      l_in_bounds = omega (arith, c.track_number.ensures.room, p.image.size);
+      l_bound = omega (arith, p.track.small.positions_small);
+      rows = p.rows;
+      row_bound = p.row_bound;
+    }
 
 pub returns : goal.returns
 returns c =
