@@ -4,29 +4,29 @@
 // length of the part and the part.
 #![tactic(auto)]
 
-use libc::STDOUT_FILENO;
+use std::io;
 
-fn number(n: u64) {
-    io::print_decimal(STDOUT_FILENO, n);
-    io::write_all(STDOUT_FILENO, b" ");
+fn number(rt: &impl Print, n: u64) -> io::Result<()> {
+    print!(rt; "{n} ")
 }
 
 // Asks for one track.
-fn ask(blocks: u32, image: &[u8], g: u32) {
-    number(blocks as u64);
-    number(image.len() as u64);
-    number(g as u64);
-    io::write_all(STDOUT_FILENO, view::view(blocks, image, g));
-    io::write_all(STDOUT_FILENO, b"\n");
+fn ask(rt: &impl Print, blocks: u32, image: &[u8], g: u32) -> io::Result<()> {
+    number(rt, blocks as u64)?;
+    number(rt, image.len() as u64)?;
+    number(rt, g as u64)?;
+    rt.write_all(view::view(blocks, image, g))?;
+    println!(rt)
 }
 
 // Asks for every track, and for the one past them.
-fn ask_all(blocks: u32, image: &[u8]) {
+fn ask_all(rt: &impl Print, blocks: u32, image: &[u8]) -> io::Result<()> {
     let mut g = 0;
     while g < 19 {
-        ask(blocks, image, g);
+        ask(rt, blocks, image, g)?;
         g += 1;
     }
+    Ok(())
 }
 
 fn fill(image: &mut [u8]) {
@@ -46,54 +46,55 @@ fn first(image: &[u8], n: usize) -> &[u8] {
     &image[0..n]
 }
 
-fn run(image: &[u8]) {
+fn run(rt: &impl Print, image: &[u8]) -> io::Result<()> {
     // One block: every track, and two that there are not.
-    ask_all(1, first(image, 414));
-    ask(1, first(image, 414), 4294967295);
+    ask_all(rt, 1, first(image, 414))?;
+    ask(rt, 1, first(image, 414), 4294967295)?;
     // A cell less, a cell more, no cell.
-    ask(1, first(image, 413), 0);
-    ask(1, first(image, 415), 0);
-    ask(1, first(image, 0), 0);
+    ask(rt, 1, first(image, 413), 0)?;
+    ask(rt, 1, first(image, 415), 0)?;
+    ask(rt, 1, first(image, 0), 0)?;
     // No blocks: the same.
-    ask_all(0, first(image, 270));
-    ask(0, first(image, 270), 4294967295);
-    ask(0, first(image, 269), 0);
-    ask(0, first(image, 271), 0);
-    ask(0, first(image, 0), 0);
+    ask_all(rt, 0, first(image, 270))?;
+    ask(rt, 0, first(image, 270), 4294967295)?;
+    ask(rt, 0, first(image, 269), 0)?;
+    ask(rt, 0, first(image, 271), 0)?;
+    ask(rt, 0, first(image, 0), 0)?;
     // Other counts, each with the length that is right for it.
-    ask(2, first(image, 558), 17);
-    ask(256, first(image, 37134), 0);
-    ask(256, first(image, 37134), 17);
-    ask(257, image, 0);
+    ask(rt, 2, first(image, 558), 17)?;
+    ask(rt, 256, first(image, 37134), 0)?;
+    ask(rt, 256, first(image, 37134), 17)?;
+    ask(rt, 257, image, 0)
 }
 
 // Asks for one entry.
-fn ask_entry(file: &[u8], index: u32) {
-    number(file.len() as u64);
-    number(index as u64);
+fn ask_entry(rt: &impl Print, file: &[u8], index: u32) -> io::Result<()> {
+    number(rt, file.len() as u64)?;
+    number(rt, index as u64)?;
     let part = files::entry(file, index);
-    number(part.len() as u64);
-    io::write_all(STDOUT_FILENO, part);
-    io::write_all(STDOUT_FILENO, b"\n");
+    number(rt, part.len() as u64)?;
+    rt.write_all(part)?;
+    println!(rt)
 }
 
 // A file of two entries, of no blocks and of one, two bytes before the second and one behind it: each entry, and two that there are
 // not. Then a file of no entries, one that is cut, and no file.
-fn run_file(file: &[u8]) {
-    ask_entry(file, 0);
-    ask_entry(file, 1);
-    ask_entry(file, 2);
-    ask_entry(file, 4294967295);
-    ask_entry(b"\0\0", 0);
-    ask_entry(first(file, 121), 0);
-    ask_entry(first(file, 0), 0);
+fn run_file(rt: &impl Print, file: &[u8]) -> io::Result<()> {
+    ask_entry(rt, file, 0)?;
+    ask_entry(rt, file, 1)?;
+    ask_entry(rt, file, 2)?;
+    ask_entry(rt, file, 4294967295)?;
+    ask_entry(rt, b"\0\0", 0)?;
+    ask_entry(rt, first(file, 121), 0)?;
+    ask_entry(rt, first(file, 0), 0)
 }
 
-fn main() {
+fn main(rt: HostRuntime) -> io::Result<()> {
     let mut image = [0u8; 37278];
     fill(&mut image);
-    run(&image);
+    run(&rt, &image)?;
     run_file(
+        &rt,
         b"\0\x02\0\0\0\x12\0\0\0\x2a\0\0\0\x3e\0\0\0\x3ckey0\0\0ABCDEFGHIJKLMNOPQRSTUVWXYZABCDEFGHIJ..key1\0\x01abcdefghijklmnopqrstuvwxyzabcdefghijklmnopqrstuvwxyzab.",
-    );
+    )
 }
