@@ -1,0 +1,50 @@
+use mathlib.Core.Path.{sym, ◌∙◌}
+use mathlib.Core.Bool.{true≢false}
+use Prim.Native.Nat.{◌+◌, ◌*◌, ◌<◌}
+use native.Mathlib.Omega.{arith}
+use borrow.Author.Count.{below_more}
+use borrow.Author.Rules.{rules}
+use lib.Arith.{digits_lt}
+use lib.ListN.{length}
+use Rattle.packed.proofs.padding_set.Goals as goal
+use Rattle.packed.proofs.padding_set.Goals.{else-packed-p-eq1, then-packed-p-eq1}
+
+pub loop-p-init : goal.loop-p-init
+loop-p-init c = (search rules, λ e. absurd (true≢false (sym e)), λ e q h. absurd (omega arith))
+
+pub overflow_mul-p : goal.overflow_mul-p
+overflow_mul-p c =
+    let has_byte_here : let a = c.args in c.loop-p.p * (a.n + 2) + (a.n + 1) < length a.packed.now =
+    let last : c.args.n + 1 < c.args.n + 2 = omega arith in
+    omega (arith, digits_lt c.loop-p-test.true last, c.requires.size) in
+    omega (arith, has_byte_here, c.requires.few, c.requires.size)
+
+pub overflow_add-p : goal.overflow_add-p
+overflow_add-p c =
+    let has_byte_here : let a = c.args in c.loop-p.p * (a.n + 2) + (a.n + 1) < length a.packed.now =
+    let last : c.args.n + 1 < c.args.n + 2 = omega arith in
+    omega (arith, digits_lt c.loop-p-test.true last, c.requires.size) in
+    omega (arith, has_byte_here, c.requires.few, c.requires.size)
+
+pub bounds-packed-p : goal.bounds-packed-p
+bounds-packed-p c =
+    let has_byte_here : let a = c.args in c.loop-p.p * (a.n + 2) + (a.n + 1) < length a.packed.now =
+    let last : c.args.n + 1 < c.args.n + 2 = omega arith in
+    omega (arith, digits_lt c.loop-p-test.true last, c.requires.size) in
+    omega (arith, has_byte_here)
+
+pub loop-p-preserved : goal.loop-p-preserved
+loop-p-preserved c =
+    let l = c.loop-p in (
+      search rules,
+      elim c.if-packed-p-eq1.branch [ then-packed-p-eq1 w ↦ λ e. record { place = l.p; inside = c.loop-p-test.true; bit = w.if-packed-p-eq1.true } | else-packed-p-eq1 w ↦ λ e. l.invariant.1 (sym w.found-is ∙ e) ],
+      elim c.if-packed-p-eq1.branch [ then-packed-p-eq1 w ↦ λ e. absurd (true≢false (sym w.found-is ∙ e)) | else-packed-p-eq1 w ↦ λ e. below_more _ _ (l.invariant.2 (sym w.found-is ∙ e)) w.if-packed-p-eq1.false ],
+    )
+
+pub returns : goal.returns
+returns c =
+    let l = c.loop-p in
+    record {
+      some = l.invariant.1;
+      none = λ e s. l.invariant.2 e s.place (omega (arith, s.inside)) s.bit;
+    }
