@@ -23,14 +23,14 @@ passes c = let a = c.before.before.before.before.before.args in passed (base a.b
 
 -- Past 6.
 coded : (c : tie.Else3) → let a = c.before.before.before.before.before.before.before.before.before.before.args in flags_code (base a.blocks) (marked (base a.blocks) c.before.before.before.before.call-marks.result) ≢ 0
-coded c e = c.if3.false (c.before.before.code_of_lem.ensures ∙ e)
+coded c e = c.if3.false (c.before.before.code_of.ensures ∙ e)
 
 -- The reach, by the marks.
 reach-is : (c : tie.After-reach-within) → let a = c.before.before.before.before.before.before.before.before.before.before.before.args in
     c.reach-within.result ≡ both (code_reach (flags_code (base a.blocks) (marked (base a.blocks) c.before.before.before.before.before.call-marks.result))) (ceiling_reach a.ceiling)
 reach-is c =
     let a = c.before.before.before.before.before.before.before.before.before.before.before.args in
-    c.reach-within.ensures ∙ ap (λ k. both (code_reach k) (ceiling_reach a.ceiling)) c.before.before.before.code_of_lem.ensures
+    c.reach-within.ensures ∙ ap (λ k. both (code_reach k) (ceiling_reach a.ceiling)) c.before.before.before.code_of.ensures
 
 check-requires : tie.Need-check-requires
 check-requires c κs = search rules
@@ -66,10 +66,10 @@ plain-answer-requires-3 c κs = search rules
 
 returns-3 : tie.Need-returns-3
 returns-3 c = too_many _ _ _ _ _ _ (passes c.before.before.before.before.before.before) (omega (arith, c.before.before.if2.false)) _ c.before.before.before.before.before.call-marks.ensures
-    (sym c.before.before.before.code_of_lem.ensures ∙ c.before.if3.true) c.plain-answer3.ensures
+    (sym c.before.before.before.code_of.ensures ∙ c.before.if3.true) c.plain-answer3.ensures
 
 reach-within-requires : tie.Need-reach-within-requires
-reach-within-requires c κs = rw c.before.before.code_of_lem.ensures (flags_small _ _)
+reach-within-requires c κs = rw c.before.before.code_of.ensures (flags_small _ _)
 
 mul-trace-record : tie.Need-overflow-mul-trace-record
 mul-trace-record c = search rules
