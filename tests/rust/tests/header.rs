@@ -80,7 +80,7 @@ fn fields(c: &str, source: &str, rattle: &str) -> [Vec<String>; 2] {
     let header = folded(&file("include/axp.h"));
     let declared = between(&header, &format!("typedef struct {c} {{"), "}").to_string();
     let source = file(source);
-    let struct_ = between(&source, &format!("#[repr(C)]\npub struct {rattle} {{"), "}");
+    let struct_ = between(&source, &format!("#[repr(C)]\n#[derive(Clone, Copy)]\npub struct {rattle} {{"), "}");
     let listed = |text: &str, by: char| -> Vec<String> {
         text.split(by).map(|f| f.trim().to_string()).filter(|f| !f.is_empty()).collect()
     };
@@ -119,7 +119,7 @@ fn constants() {
     let none = between(&source, "pub const NO_EXTRA: u32 = ", ";");
     assert!(header.contains(&format!("#define AXP_NO_EXTRA {none}u")));
     let definitions = file("crates/code/specs/Lost.antt");
-    let lost = between(&definitions, "byte-of Lost = ", "\n");
+    let lost = between(&definitions, "byte_of Lost = ", "\n");
     assert!(header.contains(&format!("#define AXP_LOST {lost}\n")));
     assert_eq!(lost, LOST.to_string());
     assert!(header.contains("#define AXP_PACKED_SIZE(n) (AXP_TRACKS * ((size_t)(n) + 2))\n"));
@@ -129,17 +129,17 @@ fn constants() {
     assert!(header.contains(&format!("#define AXP_MAX_PACKED_SIZE {}\n", 18 * (256 + 2))));
     // The most pairs of a table.
     let spans = file("crates/code/specs/Spans.antt");
-    let most = between(&spans, "too-long : ", " < table .count");
+    let most = between(&spans, "too_long : ", " < table.count");
     assert!(header.contains(&format!("#define AXP_MAX_SPANS {most}\n")));
     // The limits and sizes of a cartridge file.
     let files = file("crates/code/specs/Files.antt");
-    for (name, constant) in [("most-bytes = ", "AXP_MAX_FILE_SIZE"), ("most-entries = ", "AXP_MAX_ENTRIES")] {
+    for (name, constant) in [("most_bytes = ", "AXP_MAX_FILE_SIZE"), ("most_entries = ", "AXP_MAX_ENTRIES")] {
         assert!(header.contains(&format!("#define {constant} {}\n", between(&files, name, "\n"))));
     }
-    assert!(files.contains("entry-size n = 6 + packed-size n\n"));
+    assert!(files.contains("entry_size n = 6 + packed_size n\n"));
     assert!(header.contains("#define AXP_ENTRY_SIZE(n) (6 + AXP_PACKED_SIZE(n))\n"));
     assert!(header.contains(&format!("#define AXP_MAX_ENTRY_SIZE {}\n", 6 + 18 * (256 + 2))));
-    assert!(files.contains("directory-size count = 2 + 8 * count\n"));
+    assert!(files.contains("directory_size count = 2 + 8 * count\n"));
     assert!(header.contains("#define AXP_DIRECTORY_SIZE(k) (2 + 8 * (size_t)(k))\n"));
     // The ceilings are 0 to 2.
     assert!(file("crates/code/specs/Numbers.antt").contains("number = 12; detail = 0; applies = 2 < ceiling }\n"));
