@@ -19,7 +19,7 @@ VERSION := $(MAJOR).$(call part,MINOR).$(call part,PATCH)
 SONAME = libaxp.so.$(MAJOR)
 SHARED = libaxp.so.$(VERSION)
 
-SOURCES = crates.txt $(shell find crates -name '*.rt' -o -name '*.antt')
+SOURCES = crates.txt $(shell find crates -name out -prune -o -name '*.rt' -print -o -name '*.antt' -print)
 SAMPLE = 16 36900 samples/damaged.img
 LOST_SAMPLE = 16 0 samples/lost.img
 STRETCH_SAMPLE = 16 @samples/stretches.txt samples/stretches.img
@@ -34,8 +34,8 @@ build:
 
 build/libaxp.a: $(SOURCES) | build
 	@echo 'The library is proved before it is built. From nothing this takes some minutes.'
-	rt staticlib axp_c
-	cp target/staticlib/libaxp_c.a $@
+	cd crates/axp_c && rt lib
+	cp crates/axp_c/out/libaxp_c.a $@
 
 # The archive's eleven calls, as a shared library.
 build/$(SHARED): build/libaxp.a include/axp.h
@@ -46,8 +46,8 @@ build/libaxp.so: build/$(SHARED)
 	ln -sf $(SONAME) $@
 
 build/axp: $(SOURCES) | build
-	rt check axp
-	cp target/bin/axp $@
+	cd crates/axp && rt run </dev/null >/dev/null
+	cp crates/axp/out/axp $@
 
 build/axp-file: tools/axp-file.c include/axp.h build/libaxp.a
 	$(CC) -std=c99 $(CFLAGS) $(WARN) -Iinclude -o $@ tools/axp-file.c build/libaxp.a
@@ -111,6 +111,6 @@ install: all
 	for page in axp axp-file; do sed 's/@VERSION@/$(VERSION)/' man/$$page.1 >$(DESTDIR)$(PREFIX)/share/man/man1/$$page.1; done
 
 clean:
-	rm -rf build target tests/rust/target
+	rm -rf build crates/*/out tests/rust/target
 
 .PHONY: all demo sample test compare bench install clean

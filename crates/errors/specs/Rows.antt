@@ -1,5 +1,5 @@
 -- Rows of cells in one list of words: 34 words a row, of which the first is 0, and a last one after all rows.
-use Rattle.std.specs.Prelude.{◌≡◌, ◌≢◌, List, ℕ, ◌+◌, ◌*◌, ◌-◌, ◌<◌, ◌≤◌, ◌%◌, length, get_or}
+use Rattle.std.specs.Prelude.{◌≡◌, ◌≢◌, List, ℕ, ◌+◌, ◌*◌, ◌<◌, ◌≤◌, ◌%◌, length, get_or}
 use Rattle.code.specs.Record.{TrackSet, Shape, data_tracks, lag, track_length, back}
 use Rattle.code.proofs.OneTrack.{offset}
 use Rattle.syndrome.specs.Syndrome.{row_of}

@@ -3,7 +3,7 @@ use mathlib.Core.Path.{◌≡◌, refl}
 use mathlib.Core.Logic.{◌≢◌}
 use Prim.Native.Nat.{ℕ, zero, suc, ◌-◌, ◌<◌, ◌≤◌}
 use native.Mathlib.Omega.{arith}
-use Rattle.code.specs.Record.{A, Shape, data_tracks, lag}
+use Rattle.code.specs.Record.{Shape, data_tracks, lag}
 use Rattle.code.specs.Heads.{slope}
 use Rattle.syndrome.specs.Syndrome.{set_of}
 

@@ -1,5 +1,4 @@
 use mathlib.Core.Path.{◌≡◌}
-use Prim.Native.Nat.{◌-◌}
 use native.Mathlib.Numerals.{add-one}
 use native.Mathlib.Omega.{arith}
 use borrow.Author.Rules.{rules}
@@ -9,11 +8,11 @@ use Rattle.sums.proofs.pad.Goals as goal
 
 pub pad_track-requires : goal.pad_track-requires
 pad_track-requires c = record {
-      small = search rules;
-      image = c.requires.image;
-      g_bound = search rules;
-      padded = c.loop-g.invariant.1;
-    }
+  small = search rules;
+  image = c.requires.image;
+  g_bound = search rules;
+  padded = c.loop-g.invariant.1;
+}
 
 pub loop-g-preserved : goal.loop-g-preserved
 loop-g-preserved c = (search rules, rw add-one c.pad_track.ensures)

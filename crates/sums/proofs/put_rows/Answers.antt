@@ -8,17 +8,17 @@ use Rattle.sums.proofs.put_rows.Goals as goal
 
 pub vertical_run-requires-2 : goal.vertical_run-requires-2
 vertical_run-requires-2 c = record {
-      within = c.requires.within;
-      s_bound = omega arith;
-    }
+  within = c.requires.within;
+  s_bound = omega arith;
+}
 
 pub put_run-requires-4 : goal.put_run-requires-4
 put_run-requires-4 c = record {
-      syn_len = omega (arith, c.put_run-3.ensures.size, c.put_run-2.ensures.size, c.put_run.ensures.size, c.requires.syn_len);
-      row_bound = omega arith;
-      p_bound = c.requires.p_bound;
-      sums_len = c.vertical_run-2.ensures.size;
-    }
+  syn_len = omega (arith, c.put_run-3.ensures.size, c.put_run-2.ensures.size, c.put_run.ensures.size, c.requires.syn_len);
+  row_bound = omega arith;
+  p_bound = c.requires.p_bound;
+  sums_len = c.vertical_run-2.ensures.size;
+}
 
 pub returns : goal.returns
 returns c =

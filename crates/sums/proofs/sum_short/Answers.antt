@@ -1,5 +1,5 @@
 use mathlib.Core.Path.{◌≡◌, refl, sym}
-use Prim.Native.Nat.{ℕ, ◌+◌, ◌*◌, ◌-◌, ◌≤◌}
+use Prim.Native.Nat.{ℕ, ◌+◌, ◌*◌, ◌≤◌}
 use native.Mathlib.Omega.{arith}
 use borrow.Author.Rules.{rules}
 use lib.ListN.{length-replicate}
@@ -25,23 +25,24 @@ sum_rows-requires c =
 pub loop-r-init : goal.loop-r-init
 loop-r-init c = (search rules, copied_none _ _ _ c.requires.syn_len)
 
+-- A row is within the rows.
 pub overflow_mul-start : goal.overflow_mul-start
 overflow_mul-start c =
-    let room_here : let n = track_length (shape c.args.z) in c.loop-r.r * n + n ≤ 4 * n =
-        row_end _ _ 4 (search rules) in
-    search (rules, room_here)
+    let room : let n = track_length (shape c.args.z) in c.loop-r.r * n + n ≤ 4 * n =
+    row_end _ _ 4 (search rules) in
+    search (rules, room)
 
 pub overflow_add-end : goal.overflow_add-end
 overflow_add-end c =
-    let room_here : let n = track_length (shape c.args.z) in c.loop-r.r * n + n ≤ 4 * n =
-        row_end _ _ 4 (search rules) in
-    search (rules, room_here)
+    let room : let n = track_length (shape c.args.z) in c.loop-r.r * n + n ≤ 4 * n =
+    row_end _ _ 4 (search rules) in
+    search (rules, room)
 
 pub slice_bounds-copy_into-end : goal.slice_bounds-copy_into-end
 slice_bounds-copy_into-end c =
-    let room_here : let n = track_length (shape c.args.z) in c.loop-r.r * n + n ≤ 4 * n =
-        row_end _ _ 4 (search rules) in
-    search (rules, room_here)
+    let room : let n = track_length (shape c.args.z) in c.loop-r.r * n + n ≤ 4 * n =
+    row_end _ _ 4 (search rules) in
+    search (rules, room)
 
 pub loop-r-preserved : goal.loop-r-preserved
 loop-r-preserved c =

@@ -1,0 +1,10 @@
+-- The call's own promise, carried to the struct of numbers.
+use Rattle.code.specs.Supply.{encode}
+use Rattle.code.proofs.Supply.{extras_numbered}
+use Rattle.axp_c.proofs.axp_encode.Goals as goal
+
+pub for_c-requires : goal.for_c-requires
+for_c-requires c = extras_numbered (encode _ _ _) _ _ c.encode.ensures
+
+pub returns : goal.returns
+returns c = rw c.for_c.ensures c.encode.ensures

@@ -1,0 +1,10 @@
+-- The call's own promise, carried to the struct of numbers.
+use Rattle.code.specs.Supply.{mend, repair}
+use Rattle.code.proofs.Supply.{extras_numbered}
+use Rattle.axp_c.proofs.axp_repair.Goals as goal
+
+pub for_c-requires : goal.for_c-requires
+for_c-requires c = extras_numbered (mend repair _ _ _ _) _ _ c.repair.ensures
+
+pub returns : goal.returns
+returns c = rw c.for_c.ensures c.repair.ensures

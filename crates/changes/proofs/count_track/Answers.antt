@@ -1,0 +1,7 @@
+-- `count_track`: a track is its stretch.
+use mathlib.Core.Path.{◌∙◌}
+use Rattle.changes.proofs.Tracks.{part_changed}
+use Rattle.changes.proofs.count_track.Goals as goal
+
+pub returns : goal.returns
+returns c = c.count_differing.ensures ∙ part_changed _ _ _ _ c.requires

@@ -1,0 +1,8 @@
+-- `bits_at` meets its contract: the last bits of the bytes, shifted.
+use borrow.Author.Rules.{rules}
+use Rattle.registers.proofs.Bytes.{bits_place}
+use Rattle.registers.proofs.bits_at.Goals as goal
+
+pub returns : goal.returns
+returns c =
+    bits_place _ _ _ _ _ c.low.ensures c.high.ensures (search rules) c.places.ensures
