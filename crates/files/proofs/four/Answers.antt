@@ -1,28 +1,24 @@
 -- `four`: each half is below 65,536, as its bytes are below 256.
-use Prim.Native.Nat.{◌+◌, ◌<◌}
+use mathlib.Core.Path.{◌≡◌}
+use mathlib.Core.List.{List}
+use Prim.Native.Nat.{ℕ, ◌+◌, ◌<◌}
 use native.Mathlib.Omega.{arith}
+use mir.Syntax.{w8}
+use mir.Val.{Fits}
+use lib.ListN.{get_or}
+use Rattle.code.specs.Files.{number}
 use Rattle.code.proofs.Numerals.{number_two, number_four}
 use Rattle.files.proofs.four.Goals as goal
 
+-- The first half and the second.
+half : (bytes : List ℕ) (at x : ℕ) → ((k : ℕ) → Fits w8 (get_or bytes k 0)) → x ≡ number 2 bytes at → x < 65536
+half bytes at x given e = omega (arith, e, number_two bytes at, given at, given (at + 1))
+
 pub overflow_mul-result : goal.overflow_mul-result
-overflow_mul-result c =
-    let first_here : c.two.result < 65536 =
-    let a = c.args in
-    let given = c.type_inv.bytes in
-    omega (arith, c.two.ensures, number_two a.bytes.now a.at, given a.at, given (a.at + 1)) in
-    omega (arith, first_here)
+overflow_mul-result c = omega (arith, half _ _ _ c.type_inv.bytes c.two.ensures)
 
 pub overflow_add-result : goal.overflow_add-result
-overflow_add-result c =
-    let second_here : c.two-2.result < 65536 =
-    let a = c.args in
-    let given = c.type_inv.bytes in
-    omega (arith, c.two-2.ensures, number_two a.bytes.now (a.at + 2), given (a.at + 2), given (a.at + 2 + 1)) in
-    let first_here : c.two.result < 65536 =
-    let a = c.args in
-    let given = c.type_inv.bytes in
-    omega (arith, c.two.ensures, number_two a.bytes.now a.at, given a.at, given (a.at + 1)) in
-    omega (arith, first_here, second_here)
+overflow_add-result c = omega (arith, half _ _ _ c.type_inv.bytes c.two.ensures, half _ _ _ c.type_inv.bytes c.two-2.ensures)
 
 pub returns : goal.returns
 returns c =

@@ -6,32 +6,26 @@ use borrow.Author.Count.{below_more}
 use borrow.Author.Rules.{rules}
 use lib.Arith.{digits_lt}
 use lib.ListN.{length}
+use Rattle.packed.proofs.padding_set.Goals.{In-loop-p, else-packed-p-eq1, then-packed-p-eq1}
 use Rattle.packed.proofs.padding_set.Goals as goal
-use Rattle.packed.proofs.padding_set.Goals.{else-packed-p-eq1, then-packed-p-eq1}
+
+-- The packed form has the byte.
+has_byte : (c : In-loop-p) → let a = c.args in c.loop-p.p * (a.n + 2) + (a.n + 1) < length a.packed.now
+has_byte c =
+    let last : c.args.n + 1 < c.args.n + 2 = omega arith in
+    omega (arith, digits_lt c.loop-p-test.true last, c.requires.size)
 
 pub loop-p-init : goal.loop-p-init
 loop-p-init c = (search rules, λ e. absurd (true≢false (sym e)), λ e q h. absurd (omega arith))
 
 pub overflow_mul-p : goal.overflow_mul-p
-overflow_mul-p c =
-    let has_byte_here : let a = c.args in c.loop-p.p * (a.n + 2) + (a.n + 1) < length a.packed.now =
-    let last : c.args.n + 1 < c.args.n + 2 = omega arith in
-    omega (arith, digits_lt c.loop-p-test.true last, c.requires.size) in
-    omega (arith, has_byte_here, c.requires.few, c.requires.size)
+overflow_mul-p c = omega (arith, has_byte (goal.at.overflow_mul-p c).In-loop-p, c.requires.few, c.requires.size)
 
 pub overflow_add-p : goal.overflow_add-p
-overflow_add-p c =
-    let has_byte_here : let a = c.args in c.loop-p.p * (a.n + 2) + (a.n + 1) < length a.packed.now =
-    let last : c.args.n + 1 < c.args.n + 2 = omega arith in
-    omega (arith, digits_lt c.loop-p-test.true last, c.requires.size) in
-    omega (arith, has_byte_here, c.requires.few, c.requires.size)
+overflow_add-p c = omega (arith, has_byte (goal.at.overflow_add-p c).In-loop-p, c.requires.few, c.requires.size)
 
 pub bounds-packed-p : goal.bounds-packed-p
-bounds-packed-p c =
-    let has_byte_here : let a = c.args in c.loop-p.p * (a.n + 2) + (a.n + 1) < length a.packed.now =
-    let last : c.args.n + 1 < c.args.n + 2 = omega arith in
-    omega (arith, digits_lt c.loop-p-test.true last, c.requires.size) in
-    omega (arith, has_byte_here)
+bounds-packed-p c = omega (arith, has_byte (goal.at.bounds-packed-p c).In-loop-p)
 
 pub loop-p-preserved : goal.loop-p-preserved
 loop-p-preserved c =
