@@ -19,7 +19,7 @@ use Rattle.code.specs.Numbers.{Check, ceiling_check, reach_check, First, Passed,
 use Rattle.code.specs.Calls.{Result, plain, mended, Found, NotFound, changed_in, changed_cells, changed_mask, changed_extra, early_checks, repair_checks, Refused}
 use Rattle.code.specs.Promises.{call_flags, Traced, TracedWithin}
 use Rattle.code.specs.Supply.{AsBefore}
-use Rattle.code.specs.Examples.{ones, good, encode, repair, trace, Holds, Hold, examples, rest_of_128, answer_0, a, b}
+use Rattle.code.specs.Examples.{ones, encode, repair, trace, Holds, Hold, examples, rest_of_128, answer_0, a, b}
 use Rattle.code.specs.declared.Reach.{Reach}
 use Rattle.code.proofs.Ceilings.{ceilings}
 use Rattle.code.proofs.Codes.{code_far, closed_within}

@@ -2,11 +2,11 @@
 use mathlib.Core.Path.{◌≡◌, refl, sym, ◌∙◌}
 use mathlib.Core.Logic.{inl, inr, ◌↔◌}
 use mathlib.Core.List.{List, [], ◌∷◌, ◌++◌}
-use Prim.Native.Nat.{ℕ, ◌+◌, ◌^◌, ◌<◌, ◌≤◌}
+use Prim.Native.Nat.{ℕ, ◌^◌, ◌<◌, ◌≤◌}
 use native.Mathlib.Omega.{arith}
 use lib.ListN.{length}
 use lib.Pow.{pow_pos}
-use Rattle.code.specs.Record.{TrackSet, A, B, Shape, base, tracks, Cells}
+use Rattle.code.specs.Record.{TrackSet, A, B, Shape, base, Cells}
 use Rattle.code.specs.Image.{all_tracks, image_size, cells}
 use Rattle.code.specs.Flags.{TrackFlags, CellFlags, whole}
 use Rattle.code.specs.Lost.{read_values}

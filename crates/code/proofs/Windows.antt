@@ -6,7 +6,7 @@ use Prim.Native.Nat.{ℕ, ◌+◌, ◌<◌, ◌≤◌}
 use native.Mathlib.Omega.{arith}
 use borrow.Author.Tests.{lt-ltb, ltb-true}
 use lib.Dec.{ltb}
-use Rattle.code.specs.Record.{TrackSet, closed_tail, Shape, tracks, lag, track_length, Cells}
+use Rattle.code.specs.Record.{TrackSet, closed_tail, Shape, lag, track_length, Cells}
 use Rattle.code.specs.Flags.{TrackFlags, CellFlags, AgreeOff}
 use Rattle.code.specs.Reach.{flags_code, AtMostOne}
 use Rattle.code.specs.Spans.{window, to_tail_end, window_flags, WindowsCoded, WindowTooMany, OnTracks}

@@ -1,5 +1,5 @@
 -- Syndromes: the sums of all rules, kept in one list of four rows.
-use Rattle.std.specs.Prelude.{◌≡◌, Bool, true, false, List, ℕ, zero, suc, ◌+◌, ◌*◌, ◌-◌, ◌<◌, ◌≤◌, ◌%◌, length, get_or, set}
+use Rattle.std.specs.Prelude.{◌≡◌, Bool, true, false, List, ℕ, zero, suc, ◌+◌, ◌*◌, ◌-◌, ◌<◌, ◌%◌, length, get_or, set}
 use Rattle.code.specs.Record.{TrackSet, A, B, Shape, tracks, lag, track_length, Cells, diagonal, vertical, Good}
 use Rattle.code.specs.Image.{track_number, image_size, cells}
 use Rattle.code.specs.Sizes.{shape, Small}

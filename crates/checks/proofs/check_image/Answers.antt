@@ -14,20 +14,20 @@ use Rattle.checks.proofs.check_image.Goals as goal
 
 pub returns-then-first-ne0 : goal.returns-then-first-ne0
 returns-then-first-ne0 c = record {
-      first = refuses (size_checks _ _ _ _ _) (cell_check _ _ ∷ []) _ _ _ (λ k e. e) c.check_sizes-first.ensures c.if-first-ne0.true;
-      told = λ z. absurd (c.if-first-ne0.true z);
-    }
+  first = refuses (size_checks _ _ _ _ _) (cell_check _ _ ∷ []) _ _ _ (λ k e. e) c.check_sizes-first.ensures c.if-first-ne0.true;
+  told = λ z. absurd (c.if-first-ne0.true z);
+}
 
 pub overflow_cast-bad : goal.overflow_cast-bad
 overflow_cast-bad c =
     let passed_here : let a = c.args in Passed (size_checks a.blocks a.wanted (length a.image.now) a.size a.room) =
-        size_passes _ _ _ _ _ _ c.check_sizes-first.ensures c.if-first-ne0.false in
+    size_passes _ _ _ _ _ _ c.check_sizes-first.ensures c.if-first-ne0.false in
     let s = sizes_right _ _ _ _ _ passed_here in omega arith
 
 pub returns-then-bad-image : goal.returns-then-bad-image
 returns-then-bad-image c =
     let passed_here : let a = c.args in Passed (size_checks a.blocks a.wanted (length a.image.now) a.size a.room) =
-        size_passes _ _ _ _ _ _ c.check_sizes-first.ensures c.if-first-ne0.false in
+    size_passes _ _ _ _ _ _ c.check_sizes-first.ensures c.if-first-ne0.false in
     let bad = c.first_bad_cell-bad.ensures in
     record {
       first = next_refuses (size_checks _ _ _ _ _) (cell_check _ _) _ passed_here (rw bad at c.if-bad-image.true) (c.plain_answer-refused.ensures ∙ ap (plain 4) bad);
@@ -37,16 +37,16 @@ returns-then-bad-image c =
 pub is_lost-requires : goal.is_lost-requires
 is_lost-requires c =
     let good_here : let a = c.args in ¬ first_bad a.values a.image.now < length a.image.now =
-        λ h. omega (arith, c.if-bad-image.false, c.first_bad_cell-bad.ensures) in
+    λ h. omega (arith, c.if-bad-image.false, c.first_bad_cell-bad.ensures) in
     let p = c.requires in
     omega (arith, p.bit_values_le_values, p.values_le_read_values, most_lt _ _ c.highest-most.ensures _ (omega (arith, p.bit_values_le_values)) good_here)
 
 pub returns : goal.returns
 returns c =
     let good_here : let a = c.args in ¬ first_bad a.values a.image.now < length a.image.now =
-        λ h. omega (arith, c.if-bad-image.false, c.first_bad_cell-bad.ensures) in
+    λ h. omega (arith, c.if-bad-image.false, c.first_bad_cell-bad.ensures) in
     let passed_here : let a = c.args in Passed (size_checks a.blocks a.wanted (length a.image.now) a.size a.room) =
-        size_passes _ _ _ _ _ _ c.check_sizes-first.ensures c.if-first-ne0.false in
+    size_passes _ _ _ _ _ _ c.check_sizes-first.ensures c.if-first-ne0.false in
     let p = c.requires in
     record {
       first = next_passes (size_checks _ _ _ _ _) (cell_check _ _) _ passed_here good_here c.plain_answer-passed.ensures;

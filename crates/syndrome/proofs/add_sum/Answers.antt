@@ -10,19 +10,19 @@ use Rattle.syndrome.proofs.add_sum.Goals as goal
 pub overflow_mul-row : goal.overflow_mul-row
 overflow_mul-row c =
     let inside_here : let a = c.args in a.row * a.l + (a.p + a.off) < length a.syn.now =
-        let h = c.requires.ready in row_in _ _ _ _ h.rows h.row_small c.if-m-l.true in
+    let h = c.requires.ready in row_in _ _ _ _ h.rows h.row_small c.if-m-l.true in
     omega (arith, inside_here)
 
 pub overflow_add-row : goal.overflow_add-row
 overflow_add-row c =
     let inside_here : let a = c.args in a.row * a.l + (a.p + a.off) < length a.syn.now =
-        let h = c.requires.ready in row_in _ _ _ _ h.rows h.row_small c.if-m-l.true in
+    let h = c.requires.ready in row_in _ _ _ _ h.rows h.row_small c.if-m-l.true in
     omega (arith, inside_here)
 
 pub add_bit-requires : goal.add_bit-requires
 add_bit-requires c =
     let inside_here : let a = c.args in a.row * a.l + (a.p + a.off) < length a.syn.now =
-        let h = c.requires.ready in row_in _ _ _ _ h.rows h.row_small c.if-m-l.true in
+    let h = c.requires.ready in row_in _ _ _ _ h.rows h.row_small c.if-m-l.true in
     let h = c.requires in
     record {
       bits = record { bit = h.ready.rows.bits };

@@ -6,17 +6,17 @@ use Rattle.syndrome.proofs.add_sums.Goals as goal
 
 pub add_sum-requires-then-t-data_tracks : goal.add_sum-requires-then-t-data_tracks
 add_sum-requires-then-t-data_tracks c = record {
-      ready = record { row_small = search rules; off_small = search rules; rows = c.add_sum.ensures.rows };
-      p_lt_l = search rules;
-      w_bound = search rules;
-    }
+  ready = record { row_small = search rules; off_small = search rules; rows = c.add_sum.ensures.rows };
+  p_lt_l = search rules;
+  w_bound = search rules;
+}
 
 pub add_sum-requires-then-t-data_tracks-2 : goal.add_sum-requires-then-t-data_tracks-2
 add_sum-requires-then-t-data_tracks-2 c = record {
-      ready = record { row_small = search rules; off_small = search rules; rows = c.add_sum-then-t-data_tracks.ensures.rows };
-      p_lt_l = search rules;
-      w_bound = search rules;
-    }
+  ready = record { row_small = search rules; off_small = search rules; rows = c.add_sum-then-t-data_tracks.ensures.rows };
+  p_lt_l = search rules;
+  w_bound = search rules;
+}
 
 pub returns-then-t-data_tracks : goal.returns-then-t-data_tracks
 returns-then-t-data_tracks c =

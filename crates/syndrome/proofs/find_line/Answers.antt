@@ -18,31 +18,31 @@ overflow_mul-result c =
 pub overflow_mul-result-2 : goal.overflow_mul-result-2
 overflow_mul-result-2 c =
     let room_here : (row : ℕ) → row < 4 → let l = track_length (shape c.args.z) in row * l + l ≤ 4 * l =
-        λ row h. row_end _ row 4 h in
+    λ row h. row_end _ row 4 h in
     omega (arith, room_here c.args.s (omega arith))
 
 pub overflow_add-result : goal.overflow_add-result
 overflow_add-result c =
     let room_here : (row : ℕ) → row < 4 → let l = track_length (shape c.args.z) in row * l + l ≤ 4 * l =
-        λ row h. row_end _ row 4 h in
+    λ row h. row_end _ row 4 h in
     omega (arith, room_here c.args.s (omega arith))
 
 pub overflow_mul-result-3 : goal.overflow_mul-result-3
 overflow_mul-result-3 c =
     let room_here : (row : ℕ) → row < 4 → let l = track_length (shape c.args.z) in row * l + l ≤ 4 * l =
-        λ row h. row_end _ row 4 h in
+    λ row h. row_end _ row 4 h in
     omega (arith, room_here (1 - c.args.s) (omega arith))
 
 pub overflow_add-result-2 : goal.overflow_add-result-2
 overflow_add-result-2 c =
     let room_here : (row : ℕ) → row < 4 → let l = track_length (shape c.args.z) in row * l + l ≤ 4 * l =
-        λ row h. row_end _ row 4 h in
+    λ row h. row_end _ row 4 h in
     omega (arith, room_here (1 - c.args.s) (omega arith))
 
 pub overflow_mul-result-4 : goal.overflow_mul-result-4
 overflow_mul-result-4 c =
     let room_here : (row : ℕ) → row < 4 → let l = track_length (shape c.args.z) in row * l + l ≤ 4 * l =
-        λ row h. row_end _ row 4 h in
+    λ row h. row_end _ row 4 h in
     omega (arith, room_here (2 + c.args.s) (omega arith))
 
 pub returns : goal.returns

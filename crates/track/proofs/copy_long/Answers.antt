@@ -44,7 +44,7 @@ copy_into-requires-3 c =
     let s = c.args.source.now in
     let l = c.loop-at in
     let h : Held s l.at (length s - l.at) (take (length s - l.at) (c.copy_into-2.new.out ++ drop (length s - l.at) l.room)) =
-        again_held s l.room _ l.at _ (search rules) (search rules) c.copy_into-2.ensures _ in
+    again_held s l.room _ l.at _ (search rules) (search rules) c.copy_into-2.ensures _ in
     omega (arith, h.size, mid_len l.at (length s) l.out (search rules))
 
 pub returns : goal.returns

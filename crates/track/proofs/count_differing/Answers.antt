@@ -1,4 +1,3 @@
-use Prim.Native.Nat.{◌-◌}
 use borrow.Author.Rules.{rules}
 use Rattle.code.specs.Record.{sum}
 use Rattle.track.specs.Track.{differing}

@@ -4,6 +4,6 @@ use Rattle.track.proofs.four.Goals as goal
 
 pub returns : goal.returns
 returns c = record {
-      upper_bound = omega arith;
-      value = omega arith;
-    }
+  upper_bound = omega arith;
+  value = omega arith;
+}
