@@ -42,7 +42,8 @@ pub fn count_changes(z: Sizes, marks: &[u8], image: &[u8], out: &[u8]) -> Change
             0
         };
         count += changed as u32;
-        if changed != 0 {
+        let some = changed != 0;
+        if some {
             mask += place;
         }
         place = 2 * place;

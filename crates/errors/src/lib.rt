@@ -408,7 +408,8 @@ fn is_implied(z: Sizes, p: Form, d: usize, i: usize) -> bool
     if p.below == 0 {
         return false;
     }
-    if i == 0 {
+    let first = i == 0;
+    if first {
         return false;
     }
     if z.positions < 64 * i + 64 {

@@ -78,7 +78,8 @@ pub fn is_right(file: &[u8]) -> bool
         return false;
     }
     let count = two(file, 0) as usize;
-    if 64 < count {
+    let many = 64 < count;
+    if many {
         return false;
     }
     let directory = 2 + 8 * count;

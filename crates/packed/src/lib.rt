@@ -103,7 +103,8 @@ pub fn padding_set(packed: &[u8], n: usize) -> bool
     let mut found = false;
     let mut p = 0;
     while p < 18 {
-        if packed[p * w + (n + 1)] % 2 == 1 {
+        let one = packed[p * w + (n + 1)] % 2 == 1;
+        if one {
             found = true;
         }
         p += 1;

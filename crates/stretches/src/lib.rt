@@ -30,7 +30,8 @@ fn run_end(words: &[u32], near: &[u32], from: usize, to: usize) -> usize
         if words[m] != word {
             return m;
         }
-        if near[m] != wide {
+        let other = near[m] != wide;
+        if other {
             return m;
         }
         m += 1;

@@ -13,7 +13,7 @@ use Rattle.syndrome.specs.Syndrome.{set_of}
 use Rattle.solver.specs.Solver.{marked}
 use Rattle.mend.proofs.Tails.{clearing_none, clearing_same, clearing_first, clearing_more, mark_at, mark_inside}
 use Rattle.mend.proofs.clear_tails.Goals as goal
-use Rattle.mend.proofs.clear_tails.Goals.{then-clear_tail+then-marks-first-ne1+then-need-eq0, then-clear_tail+then-marks-first-ne1+else-need-eq0, then-clear_tail+else-marks-first-ne1, else-clear_tail}
+use Rattle.mend.proofs.clear_tails.Goals.{then-clear_tail+then-unmarked+then-need-eq0, then-clear_tail+then-unmarked+else-need-eq0, then-clear_tail+else-unmarked, else-clear_tail}
 
 pub loop-t-init : goal.loop-t-init
 loop-t-init c =
@@ -30,8 +30,8 @@ clear_tail-requires c =
       image = c.loop-t.invariant.2.done.image;
     }
 
-pub overflow_add-first : goal.overflow_add-first
-overflow_add-first c =
+pub overflow_add-unmarked : goal.overflow_add-unmarked
+overflow_add-unmarked c =
     let has_here : let a = c.args in c.loop-t.t < tracks (shape a.z) (set_of a.s) =
     let a = c.args in
     omega (arith, c.tail_tracks-count.ensures, tail_within (shape a.z) (set_of a.s), c.loop-t-test.true) in
@@ -63,9 +63,9 @@ loop-t-preserved c =
       omega arith,
       omega (arith, c.loop-t-test.true),
       elim c.if-clear_tail.branch [
-        | then-clear_tail+then-marks-first-ne1+then-need-eq0 w ↦ clearing_first _ _ _ _ _ _ _ _ _ i.2 x i.0 has_here w.if-clear_tail.true (read_here ∙ ne_eqb _ _ w.if-marks-first-ne1.true) _ w.if-need-eq0.true w.need-is
-        | then-clear_tail+then-marks-first-ne1+else-need-eq0 w ↦ clearing_more _ _ _ _ _ _ _ _ _ i.2 x i.0 has_here w.if-clear_tail.true (read_here ∙ ne_eqb _ _ w.if-marks-first-ne1.true) _ w.if-need-eq0.false w.need-is
-        | then-clear_tail+else-marks-first-ne1 w ↦ clearing_same _ _ _ _ _ _ _ _ _ i.2 x i.0 has_here (λ e. absurd (true≢false (sym (read_here ∙ eq-eqb _ _ w.if-marks-first-ne1.false) ∙ e))) _ w.need-is
+        | then-clear_tail+then-unmarked+then-need-eq0 w ↦ clearing_first _ _ _ _ _ _ _ _ _ i.2 x i.0 has_here w.if-clear_tail.true (read_here ∙ ne_eqb _ _ w.if-unmarked.true) _ w.if-need-eq0.true w.need-is
+        | then-clear_tail+then-unmarked+else-need-eq0 w ↦ clearing_more _ _ _ _ _ _ _ _ _ i.2 x i.0 has_here w.if-clear_tail.true (read_here ∙ ne_eqb _ _ w.if-unmarked.true) _ w.if-need-eq0.false w.need-is
+        | then-clear_tail+else-unmarked w ↦ clearing_same _ _ _ _ _ _ _ _ _ i.2 x i.0 has_here (λ e. absurd (true≢false (sym (read_here ∙ eq-eqb _ _ w.if-unmarked.false) ∙ e))) _ w.need-is
         | else-clear_tail w ↦ clearing_same _ _ _ _ _ _ _ _ _ i.2 x i.0 has_here (λ e. w.if-clear_tail.false) _ w.need-is
       ],
     )
