@@ -14,7 +14,8 @@ pub fn view(blocks: u32, image: &[u8], g: u32) -> &[u8]
     if first.number != 0 {
         return &image[0..0];
     }
-    if 18 <= track {
+    let beyond = 18 <= track;
+    if beyond {
         return &image[0..0];
     }
     let start = track * l;
