@@ -42,8 +42,7 @@ pub fn count_changes(z: Sizes, marks: &[u8], image: &[u8], out: &[u8]) -> Change
             0
         };
         count += changed as u32;
-        let some = changed != 0;
-        if some {
+        if changed != 0 {
             mask += place;
         }
         place = 2 * place;

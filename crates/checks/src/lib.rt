@@ -15,8 +15,7 @@ use code::{Answer, plain_answer};
 pub fn check_input(blocks: u32, input: usize, wanted: usize) -> Answer
     ensures { FirstAnswer (input_checks blocks wanted input) (result_of result) }
 {
-    let many = 256 < blocks;
-    if many {
+    if 256 < blocks {
         return plain_answer(1, 0);
     }
     if input != wanted {

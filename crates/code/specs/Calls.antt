@@ -1,5 +1,5 @@
 -- For each call, which answer and which output bytes are right for an input: those of document 01 over any shape, any list of checks
--- and any flags, then what document 02 adds. Contracts.antt has the calls.
+-- and any flags, then what document 02 adds. Promises.antt has the calls.
 use Rattle.std.specs.Prelude.{◌≡◌, ◌⊎◌, ◌&&◌, not, List, [], ◌∷◌, ◌++◌, ℕ, zero, suc, ◌+◌, ◌*◌, ◌^◌, ◌<◌, ◌≤◌, length, get_or, take, drop, eqb}
 use Rattle.code.specs.Record.{TrackSet, A, B, Shape, base, tracks, track_length, Cells, sum, Good}
 use Rattle.code.specs.Image.{track_number, all_tracks, image_size, cells}

@@ -408,8 +408,7 @@ fn is_implied(z: Sizes, p: Form, d: usize, i: usize) -> bool
     if p.below == 0 {
         return false;
     }
-    let first = i == 0;
-    if first {
+    if i == 0 {
         return false;
     }
     if z.positions < 64 * i + 64 {

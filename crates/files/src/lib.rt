@@ -78,8 +78,7 @@ pub fn is_right(file: &[u8]) -> bool
         return false;
     }
     let count = two(file, 0) as usize;
-    let many = 64 < count;
-    if many {
+    if 64 < count {
         return false;
     }
     let directory = 2 + 8 * count;

@@ -187,6 +187,16 @@ module _ (z : Sizes) (s : TrackSet) (f : TrackFlags) (before : List ℕ) where
           (λ k. w.done.fails e l n k (without e b)))
           (λ d. absurd (d o))
 
+    -- One of these, whichever it is.
+    pub one_more : (more : ℕ) → (r ≡ true → f s t ≡ false → need ≡ 0 → more ≡ t + 1) → (r ≡ true → f s t ≡ false → need ≢ 0 → more ≡ 16) →
+        ((f s t ≡ false → r ≡ false) → more ≡ need) → Clearing z s f (t + 1) before after more
+    one_more more first later same = go r refl (f s t) refl
+      where
+        go : (b : Bool) → r ≡ b → (k : Bool) → f s t ≡ k → Clearing z s f (t + 1) before after more
+        go false e k h = clearing_same (λ _. e) more (same (λ _. e))
+        go true e true h = clearing_same (λ i. absurd (true≢false (sym h ∙ i))) more (same (λ i. absurd (true≢false (sym h ∙ i))))
+        go true e false h = by_cases (ℕ_discrete need 0) (λ n. clearing_first e h more n (first e h n)) (λ n. clearing_more e h more n (later e h n))
+
 -- ## Marks
 
 module _ (sh : Shape) (marks : List ℕ) (s : TrackSet) (t first : ℕ) (e : first ≡ track_number sh s 0) where

@@ -210,8 +210,7 @@ pub fn clear_tails(z: Sizes, marks: &[u8], out: &mut [u8], s: usize) -> usize
     let mut t = 1;
     while t < count {
         if clear_tail(out, z, s, t) {
-            let unmarked = marks[first + t] != 1;
-            if unmarked {
+            if marks[first + t] != 1 {
                 if need == 0 {
                     need = t + 1;
                 } else {

@@ -103,8 +103,7 @@ pub fn padding_set(packed: &[u8], n: usize) -> bool
     let mut found = false;
     let mut p = 0;
     while p < 18 {
-        let one = packed[p * w + (n + 1)] % 2 == 1;
-        if one {
+        if packed[p * w + (n + 1)] % 2 == 1 {
             found = true;
         }
         p += 1;

@@ -30,8 +30,7 @@ fn run_end(words: &[u32], near: &[u32], from: usize, to: usize) -> usize
         if words[m] != word {
             return m;
         }
-        let other = near[m] != wide;
-        if other {
+        if near[m] != wide {
             return m;
         }
         m += 1;

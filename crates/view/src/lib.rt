@@ -14,8 +14,7 @@ pub fn view(blocks: u32, image: &[u8], g: u32) -> &[u8]
     if first.number != 0 {
         return &image[0..0];
     }
-    let beyond = 18 <= track;
-    if beyond {
+    if 18 <= track {
         return &image[0..0];
     }
     let start = track * l;

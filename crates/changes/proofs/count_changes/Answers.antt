@@ -10,7 +10,7 @@ use Rattle.code.specs.Sizes.{shape}
 use Rattle.changes.specs.Changes.{changed_at}
 use Rattle.changes.proofs.Tracks.{has_track, changed_le, cells_sum, mask_sum, mask_some, mask_none, unmarked_unchanged}
 use Rattle.changes.proofs.count_changes.Goals as goal
-use Rattle.changes.proofs.count_changes.Goals.{else-some, else-marks-g-eq1, then-some, then-marks-g-eq1}
+use Rattle.changes.proofs.count_changes.Goals.{else-marks-g-eq1, then-marks-g-eq1}
 
 pub loop-g-init : goal.loop-g-init
 unfolding sum
@@ -51,11 +51,11 @@ loop-g-preserved c =
     let l = c.loop-g in
     let g = add-one l.g in (
       search rules,
-      elim c.if-some.branch [ then-some w ↦ omega arith | else-some w ↦ omega arith ],
+      omega arith,
       omega (arith, few_here),
       rw g (omega arith),
       rw g (omega arith),
-      rw g (elim c.if-some.branch [ then-some w ↦ omega (arith, mask_some l.g _ (λ z. w.if-some.true (changed_here ∙ z))) | else-some w ↦ omega (arith, mask_none l.g _ (sym changed_here ∙ w.if-some.false)) ]),
+      rw g (grind (arith, mask_some l.g (changed_at (track_length (shape s.z)) s.image.now s.out.now l.g), mask_none l.g (changed_at (track_length (shape s.z)) s.image.now s.out.now l.g), changed_here)),
     )
 
 pub returns : goal.returns

@@ -3,15 +3,10 @@ use mathlib.Core.Logic.{inl, inr}
 use native.Mathlib.Omega.{arith}
 use Rattle.checks.proofs.check_input.Goals as goal
 
-pub returns-then-many : goal.returns-then-many
-returns-then-many c = inl (c.if-many.true, c.plain_answer.ensures)
-
 pub returns-then-input-wanted : goal.returns-then-input-wanted
 returns-then-input-wanted c =
-    let few = c.if-many.false in
     inr (λ many. omega arith, inl (c.if-input-wanted.true, c.plain_answer-then-input-wanted.ensures))
 
 pub returns : goal.returns
 returns c =
-    let few = c.if-many.false in
     inr (λ many. omega arith, inr (λ d. d c.if-input-wanted.false, c.plain_answer-2.ensures))

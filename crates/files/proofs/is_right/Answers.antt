@@ -11,8 +11,8 @@ returns-then-size-gt65536 c = inr (λ f. omega (arith, f.small), refl)
 pub returns-then-size-lt2 : goal.returns-then-size-lt2
 returns-then-size-lt2 c = inr (λ f. omega (arith, f.listed), refl)
 
-pub returns-then-many : goal.returns-then-many
-returns-then-many c = inr (λ f. omega (arith, f.few, c.if-many.true, c.two-count.ensures), refl)
+pub returns-then-count-gt64 : goal.returns-then-count-gt64
+returns-then-count-gt64 c = inr (λ f. omega (arith, f.few, c.two-count.ensures), refl)
 
 pub returns-then-size-directory : goal.returns-then-size-directory
 returns-then-size-directory c = inr (λ f. omega (arith, f.listed, c.if-size-directory.true, c.two-count.ensures), refl)
@@ -33,4 +33,4 @@ loop-i-preserved c =
 pub returns : goal.returns
 returns c =
     let count = c.two-count.ensures in
-    inl (chained_all _ _ _ c.loop-i.invariant (omega (arith, count, c.loop-i-test.false)) (search rules) (omega (arith, count, c.if-many.false)) (omega (arith, count, c.if-size-directory.false)), refl)
+    inl (chained_all _ _ _ c.loop-i.invariant (omega (arith, count, c.loop-i-test.false)) (search rules) (omega (arith, count)) (omega (arith, count)), refl)

@@ -1,5 +1,6 @@
 use mathlib.Core.Path.{◌≡◌, sym, ◌∙◌}
-use mathlib.Core.Bool.{true≢false}
+use mathlib.Core.Logic.{◌≢◌}
+use mathlib.Core.Bool.{true, false, true≢false}
 use Prim.Native.Nat.{◌+◌, ◌<◌}
 use native.Mathlib.Omega.{arith}
 use borrow.Author.Rules.{rules}
@@ -11,9 +12,8 @@ use Rattle.code.specs.Sizes.{shape}
 use Rattle.code.proofs.Cell.{tail_data, tail_within}
 use Rattle.syndrome.specs.Syndrome.{set_of}
 use Rattle.solver.specs.Solver.{marked}
-use Rattle.mend.proofs.Tails.{clearing_none, clearing_same, clearing_first, clearing_more, mark_at, mark_inside}
+use Rattle.mend.proofs.Tails.{clearing_none, one_more, mark_at, mark_inside}
 use Rattle.mend.proofs.clear_tails.Goals as goal
-use Rattle.mend.proofs.clear_tails.Goals.{then-clear_tail+then-unmarked+then-need-eq0, then-clear_tail+then-unmarked+else-need-eq0, then-clear_tail+else-unmarked, else-clear_tail}
 
 pub loop-t-init : goal.loop-t-init
 loop-t-init c =
@@ -30,8 +30,8 @@ clear_tail-requires c =
       image = c.loop-t.invariant.2.done.image;
     }
 
-pub overflow_add-unmarked : goal.overflow_add-unmarked
-overflow_add-unmarked c =
+pub overflow_add-first : goal.overflow_add-first
+overflow_add-first c =
     let has_here : let a = c.args in c.loop-t.t < tracks (shape a.z) (set_of a.s) =
     let a = c.args in
     omega (arith, c.tail_tracks-count.ensures, tail_within (shape a.z) (set_of a.s), c.loop-t-test.true) in
@@ -59,15 +59,17 @@ loop-t-preserved c =
     let a = c.args in
     omega (arith, c.tail_tracks-count.ensures, tail_within (shape a.z) (set_of a.s), c.loop-t-test.true) in
     let i = c.loop-t.invariant in
-    let x = c.clear_tail.ensures in (
+    let x = c.clear_tail.ensures in
+    let marked_here : let a = c.args in get_or a.marks.now (c.track_number-first.result + c.loop-t.t) 0 ≡ 1 → marked (shape a.z) a.marks.now (set_of a.s) c.loop-t.t ≡ true =
+    λ e. read_here ∙ eq-eqb _ _ e in
+    let unmarked_here : let a = c.args in get_or a.marks.now (c.track_number-first.result + c.loop-t.t) 0 ≢ 1 → marked (shape a.z) a.marks.now (set_of a.s) c.loop-t.t ≡ false =
+    λ d. read_here ∙ ne_eqb _ _ d in (
       omega arith,
       omega (arith, c.loop-t-test.true),
-      elim c.if-clear_tail.branch [
-        | then-clear_tail+then-unmarked+then-need-eq0 w ↦ clearing_first _ _ _ _ _ _ _ _ _ i.2 x i.0 has_here w.if-clear_tail.true (read_here ∙ ne_eqb _ _ w.if-unmarked.true) _ w.if-need-eq0.true w.need-is
-        | then-clear_tail+then-unmarked+else-need-eq0 w ↦ clearing_more _ _ _ _ _ _ _ _ _ i.2 x i.0 has_here w.if-clear_tail.true (read_here ∙ ne_eqb _ _ w.if-unmarked.true) _ w.if-need-eq0.false w.need-is
-        | then-clear_tail+else-unmarked w ↦ clearing_same _ _ _ _ _ _ _ _ _ i.2 x i.0 has_here (λ e. absurd (true≢false (sym (read_here ∙ eq-eqb _ _ w.if-unmarked.false) ∙ e))) _ w.need-is
-        | else-clear_tail w ↦ clearing_same _ _ _ _ _ _ _ _ _ i.2 x i.0 has_here (λ e. w.if-clear_tail.false) _ w.need-is
-      ],
+      one_more _ _ _ _ _ _ _ _ _ i.2 x i.0 has_here _
+          (λ y k n. let d : get_or c.args.marks.now (c.track_number-first.result + c.loop-t.t) 0 ≢ 1 = λ e. true≢false (sym (marked_here e) ∙ k) in grind (arith, y, d, n))
+          (λ y k n. let d : get_or c.args.marks.now (c.track_number-first.result + c.loop-t.t) 0 ≢ 1 = λ e. true≢false (sym (marked_here e) ∙ k) in grind (arith, y, d, n))
+          (λ k. grind (arith, k, unmarked_here)),
     )
 
 pub returns : goal.returns

@@ -1,4 +1,4 @@
-use mathlib.Core.Path.{sym, ◌∙◌}
+use mathlib.Core.Path.{sym}
 use mathlib.Core.Bool.{true≢false}
 use Prim.Native.Nat.{◌+◌, ◌*◌, ◌<◌}
 use native.Mathlib.Omega.{arith}
@@ -6,7 +6,7 @@ use borrow.Author.Count.{below_more}
 use borrow.Author.Rules.{rules}
 use lib.Arith.{digits_lt}
 use lib.ListN.{length}
-use Rattle.packed.proofs.padding_set.Goals.{In-loop-p, else-one, then-one}
+use Rattle.packed.proofs.padding_set.Goals.{In-loop-p}
 use Rattle.packed.proofs.padding_set.Goals as goal
 
 -- The packed form has the byte.
@@ -18,11 +18,11 @@ has_byte c =
 pub loop-p-init : goal.loop-p-init
 loop-p-init c = (search rules, λ e. absurd (true≢false (sym e)), λ e q h. absurd (omega arith))
 
-pub overflow_mul-one : goal.overflow_mul-one
-overflow_mul-one c = omega (arith, has_byte (goal.at.overflow_mul-one c).In-loop-p, c.requires.few, c.requires.size)
+pub overflow_mul-p : goal.overflow_mul-p
+overflow_mul-p c = omega (arith, has_byte (goal.at.overflow_mul-p c).In-loop-p, c.requires.few, c.requires.size)
 
-pub overflow_add-one-in-loop-p : goal.overflow_add-one-in-loop-p
-overflow_add-one-in-loop-p c = omega (arith, has_byte (goal.at.overflow_add-one-in-loop-p c).In-loop-p, c.requires.few, c.requires.size)
+pub overflow_add-p : goal.overflow_add-p
+overflow_add-p c = omega (arith, has_byte (goal.at.overflow_add-p c).In-loop-p, c.requires.few, c.requires.size)
 
 pub bounds-packed-p : goal.bounds-packed-p
 bounds-packed-p c = omega (arith, has_byte (goal.at.bounds-packed-p c).In-loop-p)
@@ -31,8 +31,8 @@ pub loop-p-preserved : goal.loop-p-preserved
 loop-p-preserved c =
     let l = c.loop-p in (
       search rules,
-      elim c.if-one.branch [ then-one w ↦ λ e. record { place = l.p; inside = c.loop-p-test.true; bit = w.if-one.true } | else-one w ↦ λ e. l.invariant.1 (sym w.found-is ∙ e) ],
-      elim c.if-one.branch [ then-one w ↦ λ e. absurd (true≢false (sym w.found-is ∙ e)) | else-one w ↦ λ e. below_more _ _ (l.invariant.2 (sym w.found-is ∙ e)) w.if-one.false ],
+      search (rules, below_more),
+      search (rules, below_more),
     )
 
 pub returns : goal.returns

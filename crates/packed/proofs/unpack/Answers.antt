@@ -43,7 +43,7 @@ returns-then-short c =
 pub returns-then-padding : goal.returns-then-padding
 returns-then-padding c =
     let a = c.args in
-    let p = passed (goal.at.returns-then-padding c).Else-short (inputs (goal.at.returns-then-padding c).Else-first-ne0) in
+    let p = sizes_passed a.blocks a.packed.now a.out.now (inputs (goal.at.returns-then-padding c).Else-first-ne0) (λ h. omega arith) in
     padded_wrong a.blocks a.packed.now a.out.now _ p c.plain_answer-then-padding.ensures (c.padding_set-padding.ensures.some c.if-padding.true)
 
 pub slice_bounds-unpack_image-end-2 : goal.slice_bounds-unpack_image-end-2

@@ -12,3 +12,6 @@ put_rows-requires c =
       p_bound = s.p_bound;
       within = record { small = edge_small _ small; is_image = s.image; from = omega arith; to = omega (arith, small.t1_small, small.t2_small, s.m_bound) };
     }
+
+pub returns : goal.returns
+returns c = c.put_rows.ensures

@@ -42,14 +42,14 @@ code_of-code-requires c =
 pub returns-then-ceiling-gt2 : goal.returns-then-ceiling-gt2
 returns-then-ceiling-gt2 c =
     let passes_here : let a = c.args in Passed (early_checks read_values (base a.blocks) a.blocks a.flags a.image.now (length a.out.now)) =
-    let a = c.args in passed (base a.blocks) _ _ _ _ _ c.check-seen.ensures.first c.if-number-ne0.false in
+    let a = c.args in passed (base a.blocks) _ _ _ _ _ c.check-seen.ensures.first (omega arith) in
     too_high _ _ _ _ _ _ passes_here c.if-ceiling-gt2.true c.plain_answer-then-ceiling-gt2.ensures
 
 pub returns-then-code-eq0 : goal.returns-then-code-eq0
 returns-then-code-eq0 c =
     let passes_here : let a = c.args in Passed (early_checks read_values (base a.blocks) a.blocks a.flags a.image.now (length a.out.now)) =
     let a = c.args in passed (base a.blocks) _ _ _ _ _ c.check-seen.ensures.first c.if-number-ne0.false in
-    too_many _ _ _ _ _ _ passes_here (omega (arith, c.if-ceiling-gt2.false)) _ c.call_marks-marks.ensures
+    too_many _ _ _ _ _ _ passes_here (omega arith) _ c.call_marks-marks.ensures
     (sym c.code_of-code.ensures ∙ c.if-code-eq0.true) c.plain_answer-then-code-eq0.ensures
 
 pub reach_within-w-requires : goal.reach_within-w-requires
@@ -90,5 +90,5 @@ returns c =
     λ e. c.if-code-eq0.false (c.code_of-code.ensures ∙ e) in
     let passes_here : let a = c.args in Passed (early_checks read_values (base a.blocks) a.blocks a.flags a.image.now (length a.out.now)) =
     let a = c.args in passed (base a.blocks) _ _ _ _ _ c.check-seen.ensures.first c.if-number-ne0.false in
-    traced _ _ _ _ _ _ passes_here (omega (arith, c.if-ceiling-gt2.false)) _ c.call_marks-marks.ensures
+    traced _ _ _ _ _ _ passes_here (omega arith) _ c.call_marks-marks.ensures
     coded_here _ c.trace_record.auto.out _ reach_is_here c.trace_record.ensures

@@ -28,24 +28,24 @@ returns-then-first-ne0 c =
     let a = c.args in
     not_viewed (base a.blocks) a.blocks a.image.now a.g _ _ c.check_input-first.ensures c.if-first-ne0.true refl
 
-pub returns-then-beyond : goal.returns-then-beyond
-returns-then-beyond c =
+pub returns-then-track-ge18 : goal.returns-then-track-ge18
+returns-then-track-ge18 c =
     let a = c.args in
-    no_track (base a.blocks) a.blocks a.image.now a.g (passed (goal.at.returns-then-beyond c).Else-first-ne0) _ c.if-beyond.true refl
+    no_track (base a.blocks) a.blocks a.image.now a.g (passed (goal.at.returns-then-track-ge18 c).Else-first-ne0) _ c.if-track-ge18.true refl
 
 pub overflow_mul-start : goal.overflow_mul-start
-overflow_mul-start c = omega (arith, room (goal.at.overflow_mul-start c).Else-first-ne0 c.if-beyond.false)
+overflow_mul-start c = omega (arith, room (goal.at.overflow_mul-start c).Else-first-ne0 (omega arith))
 
 pub overflow_add-end : goal.overflow_add-end
-overflow_add-end c = omega (arith, room (goal.at.overflow_add-end c).Else-first-ne0 c.if-beyond.false)
+overflow_add-end c = omega (arith, room (goal.at.overflow_add-end c).Else-first-ne0 (omega arith))
 
 pub slice_bounds-result-end-2 : goal.slice_bounds-result-end-2
-slice_bounds-result-end-2 c = omega (arith, room (goal.at.slice_bounds-result-end-2 c).Else-first-ne0 c.if-beyond.false)
+slice_bounds-result-end-2 c = omega (arith, room (goal.at.slice_bounds-result-end-2 c).Else-first-ne0 (omega arith))
 
 pub returns : goal.returns
 returns c =
     let a = c.args in
     let l = 8 * a.blocks + 15 in
     let whole : a.g * l + l - a.g * l ≡ l = omega arith in
-    viewed (base a.blocks) a.blocks a.image.now a.g (passed (goal.at.returns c).Else-first-ne0) _ (λ h. omega (arith, c.if-beyond.false))
+    viewed (base a.blocks) a.blocks a.image.now a.g (passed (goal.at.returns c).Else-first-ne0) _ (λ h. omega arith)
     (ap (λ (k : ℕ). take k (drop (a.g * l) a.image.now)) whole)

@@ -30,7 +30,7 @@ returns-then-number-ne0 c =
 pub returns-then-not-fit : goal.returns-then-not-fit
 returns-then-not-fit c =
     let a = c.args in
-    let p = passed (goal.at.returns-then-not-fit c).Else-number-ne0 in
+    let p = entries_passed a.count a.entries.now _ c.check_entries-first.ensures (omega arith) in
     not_fitted a.count a.entries.now a.out.now _ p (told_no _ _ c.fits-fit.ensures c.if-not-fit.true) c.refused-then-not-fit.ensures
 
 pub slice_bounds-put_file-end : goal.slice_bounds-put_file-end
