@@ -5,7 +5,8 @@ usage: tools/respell.py            at the top of the repository, once, right aft
 
 A name is turned where specs/ or proofs/ declares or binds it. Names of the kit (what a `use` line brings from a library that is not of
 this repository), names that Rattle makes (behind `tie.`) and everything in src/ but ghost text keep their spelling. It stops, and writes
-nothing, where two names would fall together in one file's reach.
+nothing, where two names would fall together. code/specs/Contracts.antt, whose name is now that of a module that Rattle makes, becomes
+Promises.antt.
 """
 
 import os
