@@ -3,25 +3,18 @@
 
 ghost use Rattle.std.specs.Prelude.{◌<◌, ◌≤◌, length, IfOk};
 
+use code::{Answer, Refusal};
 use std::io;
 use std::io::Read;
 
 // ---- Output
 
-fn number(rt: &impl Print, n: u32) -> io::Result<()> {
-    print!(rt; " {n}")
-}
-
-// A line: answer, changed mask and changed cells, or number, detail and 0.
-fn line(rt: &impl Print, r: code::Answer) -> io::Result<()> {
-    number(rt, r.number)?;
-    if r.number == 0 {
-        number(rt, r.mask)?;
-    } else {
-        number(rt, r.detail)?;
+// A line: 0, changed mask and changed cells, or number, detail and 0.
+fn line(rt: &impl Print, answer: Result<Answer, Refusal>) -> io::Result<()> {
+    match answer {
+        Ok(r) => println!(rt; " 0 {} {}", r.mask, r.cells),
+        Err(e) => println!(rt; " {} {} 0", e.number(), e.detail()),
     }
-    number(rt, r.cells)?;
-    println!(rt)
 }
 
 // ---- Input
@@ -30,6 +23,7 @@ fn line(rt: &impl Print, r: code::Answer) -> io::Result<()> {
 fn read_full(from: &mut impl Read, buffer: &mut [u8]) -> io::Result<usize>
     ensures { IfOk result (λ n. n ≤ length buffer.new) }
 {
+    // A `while`: each read says how far the next is on, and the library reads to the input's end into a heap's buffer only.
     let mut n = 0;
     while n < buffer.len() {
         let more = from.read(&mut buffer[n..])?;
@@ -41,13 +35,6 @@ fn read_full(from: &mut impl Read, buffer: &mut [u8]) -> io::Result<usize>
     Ok(n)
 }
 
-// Two bytes, the most significant first.
-fn pair(high: u8, low: u8) -> u32
-    ensures { result < 65536 }
-{
-    256 * (high as u32) + low as u32
-}
-
 fn main(rt: HostRuntime) -> io::Result<()> {
     let mut input = [0u8; 37141];
     let mut out = [0u8; 37134];
@@ -55,12 +42,10 @@ fn main(rt: HostRuntime) -> io::Result<()> {
     if n < 6 {
         return println!(rt; "axp short");
     }
-    let blocks = pair(input[0], input[1]);
-    let flags = 65536 * pair(input[2], input[3]) + pair(input[4], input[5]);
-    print!(rt; "axp")?;
-    number(&rt, blocks)?;
-    number(&rt, flags)?;
-    print!(rt; "\nrepair")?;
+    let blocks = u32::from(u16::from_be_bytes([input[0], input[1]]));
+    let flags = u32::from_be_bytes([input[2], input[3], input[4], input[5]]);
+    println!(rt; "axp {blocks} {flags}")?;
+    print!(rt; "repair")?;
     line(&rt, repair::repair(blocks, flags, &input[6..n], &mut out))?;
     print!(rt; "trace")?;
     line(

@@ -4,16 +4,16 @@
 ghost use Rattle.std.specs.Prelude.{◌≡◌};
 ghost use Rattle.code.specs.Promises.{Encoded, WasRead, Repaired, Traced, TracedWithin, SpansRepaired, WasPacked, WasUnpacked, FileWritten, FileCounted, EntryFound};
 ghost use Rattle.code.specs.Spans.{table_of};
-ghost use Rattle.code.specs.Answers.{extra_of, result_of};
-ghost use Rattle.code.proofs.Extras.{Numbered, ExtrasNumbered};
-ghost use Rattle.axp_c.specs.Result.{c_extra, c_result};
+ghost use Rattle.code.specs.Answers.{refused_of, result_of, done_of};
+ghost use Rattle.code.proofs.Extras.{ExtrasNumbered};
+ghost use Rattle.axp_c.specs.Result.{c_result};
 
-use code::{Answer, Counted, Extra, Span, Stretch, Written};
+use code::{Answer, Counted, Refusal, Span, Stretch, Written};
 
 // AXP_NO_EXTRA.
 pub const NO_EXTRA: u32 = 4294967295;
 
-// axp_result.
+// axp_result. (Its numbers, and the arguments that the calls have in common, are the C interface.)
 #[repr(C)]
 #[derive(Clone, Copy)]
 pub struct AxpResult {
@@ -25,31 +25,57 @@ pub struct AxpResult {
     pub extra_b: u32,
 }
 
-// The number of an extra.
-fn extra_number(e: Extra) -> u32
-    requires { Numbered 18 (extra_of e) }
-    ensures { c_extra result ≡ extra_of e }
-{
-    match e {
-        Extra::None => NO_EXTRA,
-        Extra::Track(g) => g,
+// 0, with no changed cell and no extra.
+const NOTHING: AxpResult = AxpResult {
+    answer: 0,
+    detail: 0,
+    mask: 0,
+    cells: 0,
+    extra_a: NO_EXTRA,
+    extra_b: NO_EXTRA,
+};
+
+// A refused call, as C has it.
+impl From<Refusal> for AxpResult {
+    ghost from_gives = { λ e c. c_result c ≡ refused_of e };
+
+    fn from(e: Refusal) -> AxpResult {
+        AxpResult {
+            answer: e.number(),
+            detail: e.detail(),
+            ..NOTHING
+        }
     }
 }
 
-// An answer as C has it.
-fn for_c(r: Answer) -> AxpResult
-    requires { ExtrasNumbered 18 (result_of r) }
-    ensures { c_result result ≡ result_of r }
-{
-    let a = r.a;
-    let b = r.b;
-    AxpResult {
-        answer: r.number,
-        detail: r.detail,
-        mask: r.mask,
-        cells: r.cells,
-        extra_a: extra_number(a),
-        extra_b: extra_number(b),
+// What repair and tracing answer. An extra's number is a track number, and so not that of none.
+impl From<Result<Answer, Refusal>> for AxpResult {
+    ghost from_gives = { λ r c. ExtrasNumbered 18 (result_of r) → c_result c ≡ result_of r };
+
+    fn from(answer: Result<Answer, Refusal>) -> AxpResult {
+        match answer {
+            Ok(r) => AxpResult {
+                answer: 0,
+                detail: 0,
+                mask: r.mask,
+                cells: r.cells,
+                extra_a: r.a.unwrap_or(NO_EXTRA),
+                extra_b: r.b.unwrap_or(NO_EXTRA),
+            },
+            Err(e) => e.into(),
+        }
+    }
+}
+
+// What the other calls answer.
+impl From<Result<(), Refusal>> for AxpResult {
+    ghost from_gives = { λ r c. c_result c ≡ done_of r };
+
+    fn from(done: Result<(), Refusal>) -> AxpResult {
+        match done {
+            Ok(()) => NOTHING,
+            Err(e) => e.into(),
+        }
     }
 }
 
@@ -58,7 +84,7 @@ fn for_c(r: Answer) -> AxpResult
 pub extern "C" fn axp_encode(blocks: u32, payload: &[u8], out: &mut [u8]) -> AxpResult
     ensures { Encoded blocks payload.now out.old (c_result result) out.new }
 {
-    for_c(codec::encode(blocks, payload, out))
+    codec::encode(blocks, payload, out).into()
 }
 
 // Reader.
@@ -66,7 +92,7 @@ pub extern "C" fn axp_encode(blocks: u32, payload: &[u8], out: &mut [u8]) -> Axp
 pub extern "C" fn axp_read(blocks: u32, image: &[u8], out: &mut [u8]) -> AxpResult
     ensures { WasRead blocks image.now out.old (c_result result) out.new }
 {
-    for_c(codec::read(blocks, image, out))
+    codec::read(blocks, image, out).into()
 }
 
 // Repairer.
@@ -74,7 +100,7 @@ pub extern "C" fn axp_read(blocks: u32, image: &[u8], out: &mut [u8]) -> AxpResu
 pub extern "C" fn axp_repair(blocks: u32, flags: u32, image: &[u8], out: &mut [u8]) -> AxpResult
     ensures { Repaired blocks flags image.now out.old (c_result result) out.new }
 {
-    for_c(repair::repair(blocks, flags, image, out))
+    repair::repair(blocks, flags, image, out).into()
 }
 
 // Tracer.
@@ -82,7 +108,7 @@ pub extern "C" fn axp_repair(blocks: u32, flags: u32, image: &[u8], out: &mut [u
 pub extern "C" fn axp_trace(blocks: u32, flags: u32, image: &[u8], out: &mut [u8]) -> AxpResult
     ensures { Traced blocks flags image.now out.old (c_result result) out.new }
 {
-    for_c(trace::trace(blocks, flags, image, out))
+    trace::trace(blocks, flags, image, out).into()
 }
 
 // Tracer with a ceiling.
@@ -96,7 +122,7 @@ pub extern "C" fn axp_trace_within(
 ) -> AxpResult
     ensures { TracedWithin blocks flags ceiling image.now out.old (c_result result) out.new }
 {
-    for_c(trace::trace_within(blocks, flags, ceiling, image, out))
+    trace::trace_within(blocks, flags, ceiling, image, out).into()
 }
 
 // Repairer with flags by stretch. C's axp_span is code's Span.
@@ -109,7 +135,7 @@ pub extern "C" fn axp_repair_spans(
 ) -> AxpResult
     ensures { SpansRepaired blocks (table_of spans.now) image.now out.old (c_result result) out.new }
 {
-    for_c(spans::repair_spans(blocks, spans, image, out))
+    spans::repair_spans(blocks, spans, image, out).into()
 }
 
 // Packing.
@@ -117,7 +143,7 @@ pub extern "C" fn axp_repair_spans(
 pub extern "C" fn axp_pack(blocks: u32, image: &[u8], out: &mut [u8]) -> AxpResult
     ensures { WasPacked blocks image.now out.old (c_result result) out.new }
 {
-    for_c(packed::pack(blocks, image, out))
+    packed::pack(blocks, image, out).into()
 }
 
 // Unpacking.
@@ -125,7 +151,7 @@ pub extern "C" fn axp_pack(blocks: u32, image: &[u8], out: &mut [u8]) -> AxpResu
 pub extern "C" fn axp_unpack(blocks: u32, packed: &[u8], out: &mut [u8]) -> AxpResult
     ensures { WasUnpacked blocks packed.now out.old (c_result result) out.new }
 {
-    for_c(packed::unpack(blocks, packed, out))
+    packed::unpack(blocks, packed, out).into()
 }
 
 // Writer of a cartridge file. C's axp_written is code's Written.
@@ -133,7 +159,7 @@ pub extern "C" fn axp_unpack(blocks: u32, packed: &[u8], out: &mut [u8]) -> AxpR
 pub extern "C" fn axp_file_write(entries: u32, bytes: &[u8], out: &mut [u8]) -> Written
     ensures { FileWritten entries bytes.now out.old result out.new }
 {
-    writer::write(entries, bytes, out)
+    writer::write(entries, bytes, out).into()
 }
 
 // The number of a file's entries. C's axp_counted is code's Counted.
@@ -141,7 +167,7 @@ pub extern "C" fn axp_file_write(entries: u32, bytes: &[u8], out: &mut [u8]) -> 
 pub extern "C" fn axp_file_count(file: &[u8]) -> Counted
     ensures { FileCounted file.now result }
 {
-    files::count(file)
+    files::count(file).into()
 }
 
 // Reader of a cartridge file. C's axp_stretch is code's Stretch.
@@ -149,5 +175,5 @@ pub extern "C" fn axp_file_count(file: &[u8]) -> Counted
 pub extern "C" fn axp_file_entry(file: &[u8], index: u32) -> Stretch
     ensures { EntryFound file.now index result }
 {
-    files::find(file, index)
+    files::find(file, index).into()
 }

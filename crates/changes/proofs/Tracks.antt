@@ -1,26 +1,23 @@
 -- Changed cells by track numbers.
-use mathlib.Core.Path.{◌≡◌, refl, sym, ap, ap₂, ◌∙◌}
-use mathlib.Core.Logic.{◌≢◌, by_cases}
-use mathlib.Core.Bool.{Bool}
-use mathlib.Core.List.{List}
-use Prim.Native.Nat.{ℕ, ◌+◌, ◌*◌, ◌-◌, ◌^◌, ◌<◌, ◌≤◌}
+use Rattle.std.proofs.Common.{◌≡◌, Bool, false, List, ℕ, true, eqb, add-one, add-zero, ◌+◌, ◌*◌, ◌-◌, ◌^◌, ◌<◌, ◌≤◌, refl, sym, ap, ap₂, ◌∙◌, length, get_or, take, drop, arith}
+use Rattle.std.proofs.Math.Nat.{pow-suc}
+use mathlib.Core.Logic.{by_cases}
 use native.Mathlib.Decide.{dec_lt}
-use native.Mathlib.Omega.{arith}
-use borrow.Author.Tests.{eq-eqb, ne_eqb}
 use borrow.Rule.Slice.PartMut.{mid_len}
-use lib.ListN.{length, get_or, take, drop}
-use Rattle.code.specs.Record.{TrackSet, A, B, Shape, tracks, track_length, sum}
+use Rattle.code.specs.declared.sizes.TrackSet.{TrackSet}
+use Rattle.code.specs.declared.sizes.TrackSet.TheVariants.{A, B}
+use Rattle.code.specs.Record.{Shape, tracks, track_length, sum}
 use Rattle.code.specs.Image.{track_number, all_tracks, cells}
 use Rattle.code.specs.Reach.{pick}
 use Rattle.code.specs.Calls.{differ, changed_in, over_tracks, changed_cells, mask_bit, changed_mask}
 use Rattle.code.specs.Sizes.{shape}
-use Rattle.code.specs.declared.Sizes.{Sizes}
+use Rattle.code.specs.declared.sizes.Sizes.{Sizes}
 use Rattle.code.proofs.Masks.{changed_in_le, unchanged_in, sum_append}
+use Rattle.code.proofs.Places.{row_end}
 use Rattle.code.proofs.Sums.{sum_same}
 use Rattle.track.specs.Track.{differing}
-use Rattle.track.proofs.Rows.{row_end}
 use Rattle.track.proofs.Parts.{part_at}
-use Rattle.changes.specs.Changes.{HasTrack, changed_at, OnlyMarked}
+use Rattle.changes.specs.Changes.{HasTrack, changed_at, OnlyMarked, Counted}
 
 -- ## Track numbers
 
@@ -32,7 +29,7 @@ by_number sh P h g l = by_cases (dec_lt g (tracks sh A)) (h A g) (λ n.
     rw e at (h B (g - tracks sh A) (omega arith)))
 
 -- Both images have every track.
-pub has_track : (z : Sizes) (marks image out : List ℕ) → OnlyMarked z marks image out → (g : ℕ) → g < all_tracks (shape z) →
+pub has_track : (z : Sizes) (marks : List Bool) (image out : List ℕ) → OnlyMarked z marks image out → (g : ℕ) → g < all_tracks (shape z) →
     HasTrack (track_length (shape z)) g image out
 has_track z marks image out o g h = record {
   room = omega (arith, row_end (track_length (shape z)) g (all_tracks (shape z)) h, o.image_has);
@@ -48,13 +45,6 @@ module _ (l g : ℕ) (image out : List ℕ) (has : HasTrack l g image out) where
   part_changed =
       let size : length (take (g * l + l - g * l) (drop (g * l) image)) ≡ l = mid_len (g * l) (g * l + l) image has.room ∙ omega arith in
       rw size (sum_same l _ _ (λ m h. ap₂ differ (part_at image (g * l) (g * l + l - g * l) m (omega arith)) (part_at out (g * l) (g * l + l - g * l) m (omega arith))))
-
--- The bit of a track with changed cells, and of one without.
-pub mask_some : (g c : ℕ) → c ≢ 0 → mask_bit g c ≡ 2 ^ g
-mask_some g c d = ap (λ (b : Bool). pick b 0 (2 ^ g)) (ne_eqb c 0 d)
-
-pub mask_none : (g c : ℕ) → c ≡ 0 → mask_bit g c ≡ 0
-mask_none g c e = ap (λ (b : Bool). pick b 0 (2 ^ g)) (eq-eqb c 0 e)
 
 module _ (sh : Shape) (image out : List ℕ) where
   abbrev at_number : ℕ → ℕ
@@ -83,17 +73,61 @@ module _ (sh : Shape) (image out : List ℕ) where
   unfolding changed_mask changed_in changed_at
   mask_sum = over_numbers (λ g. mask_bit g (at_number g))
 
-module _ (z : Sizes) (marks image out : List ℕ) (only : OnlyMarked z marks image out) where
+module _ (z : Sizes) (marks : List Bool) (image out : List ℕ) (only : OnlyMarked z marks image out) where
   abbrev l : ℕ
   l = track_length (shape z)
 
-  -- A track that is not marked is the same.
-  pub unmarked_same : (g : ℕ) → g < all_tracks (shape z) → get_or marks g 0 ≢ 1 → (m : ℕ) → m < l → get_or image (g * l + m) 0 ≡ get_or out (g * l + m) 0
-  unmarked_same = by_number (shape z) (λ g. get_or marks g 0 ≢ 1 → (m : ℕ) → m < l → get_or image (g * l + m) 0 ≡ get_or out (g * l + m) 0)
-      (λ s t h d m b. only.agree.cell s t m h b (ne_eqb _ 1 d))
+  -- A track that is not marked has no changed cell.
+  pub unmarked_unchanged : (g : ℕ) → g < all_tracks (shape z) → get_or marks g false ≡ false → changed_at l image out g ≡ 0
+  unmarked_unchanged = by_number (shape z) (λ g. get_or marks g false ≡ false → changed_at l image out g ≡ 0)
+      (λ s t h d. sym (changed_number (shape z) image out s t) ∙ unchanged_in (shape z) _ _ s t (λ m b. only.agree.cell s t m h b d))
 
-  -- It has no changed cell.
-  pub unmarked_unchanged : (g : ℕ) → g < all_tracks (shape z) → get_or marks g 0 ≢ 1 → changed_at l image out g ≡ 0
-  unmarked_unchanged = by_number (shape z) (λ g. get_or marks g 0 ≢ 1 → changed_at l image out g ≡ 0)
-      (λ s t h d. sym (changed_number (shape z) image out s t)
-      ∙ unchanged_in (shape z) _ _ s t (λ m b. only.agree.cell s t m h b (ne_eqb _ 1 d)))
+-- ## Track after track
+
+-- The mask and the number of changed cells of the first g tracks.
+pub record Counting (l : ℕ) (image out : List ℕ) (g mask count : ℕ) : Type 0 where
+  pub mask_small : mask < 2 ^ g
+  pub count_small : count ≤ g * 2063
+  pub mask_is : mask ≡ sum g (λ k. mask_bit k (changed_at l image out k))
+  pub count_is : count ≡ sum g (changed_at l image out)
+
+pub counting_none : (l : ℕ) (image out : List ℕ) → Counting l image out 0 0 0
+unfolding sum
+counting_none l image out = record { mask_small = omega arith; count_small = omega arith; mask_is = refl; count_is = refl }
+
+pub bit_small : (g c : ℕ) → mask_bit g c ≤ 2 ^ g
+bit_small g c = go (eqb c 0)
+  where
+    go : (b : Bool) → pick b 0 (2 ^ g) ≤ 2 ^ g
+    go true = omega arith
+    go false = omega arith
+
+module _ (z : Sizes) (marks : List Bool) (image out : List ℕ) (only : OnlyMarked z marks image out) (l : ℕ) (l_is : l ≡ track_length (shape z)) (g : ℕ) (within : g < all_tracks (shape z)) where
+  -- A track that is marked and has c changed cells.
+  pub few_changed : (c : ℕ) → c ≡ changed_at l image out g → c ≤ 2063
+  few_changed c e =
+      let few : changed_at l image out g ≤ track_length (shape z) = rw l_is (changed_le (shape z) image out g within) in
+      omega (arith, e, few)
+
+  pub counting_more : (mask count c bit : ℕ) → Counting l image out g mask count → c ≡ changed_at l image out g → bit ≡ mask_bit g c →
+      Counting l image out (g + 1) (mask + bit) (count + c)
+  unfolding sum
+  counting_more mask count c bit h e b = rw (add-one g) (record {
+    mask_small = omega (arith, h.mask_small, bit_small g c, b, pow-suc 2 g);
+    count_small = omega (arith, h.count_small, few_changed c e);
+    mask_is = ap₂ ◌+◌ h.mask_is (b ∙ ap (mask_bit g) e);
+    count_is = ap₂ ◌+◌ h.count_is e;
+  })
+
+  -- One that is not marked has none.
+  pub counting_same : (mask count : ℕ) → get_or marks g false ≡ false → Counting l image out g mask count → Counting l image out (g + 1) mask count
+  counting_same mask count unmarked h =
+      rw (add-zero mask, add-zero count) at (counting_more mask count 0 0 h (sym (rw l_is (unmarked_unchanged z marks image out only g within unmarked))) refl)
+
+-- All tracks.
+pub counting_all : (z : Sizes) (image out : List ℕ) (l g mask count : ℕ) → l ≡ track_length (shape z) → g ≡ all_tracks (shape z) → Counting l image out g mask count →
+    Counted (shape z) image out (record { mask = mask; cells = count })
+counting_all z image out l g mask count p q h = record {
+  mask_is = rw (p, q) at h.mask_is ∙ sym (mask_sum (shape z) image out);
+  cells_are = rw (p, q) at h.count_is ∙ sym (cells_sum (shape z) image out);
+}

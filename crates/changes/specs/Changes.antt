@@ -1,11 +1,14 @@
 -- What is said of changed cells.
-use Rattle.std.specs.Prelude.{◌≡◌, List, ℕ, ◌+◌, ◌*◌, ◌≤◌, length, get_or}
+use Rattle.std.specs.Prelude.{◌≡◌, Bool, List, ℕ, ◌+◌, ◌*◌, ◌≤◌, length, get_or}
+use Rattle.code.specs.declared.sizes.TrackSet.{TrackSet}
+use Rattle.code.specs.declared.sizes.TrackSet.TheVariants.{A, B}
 use Rattle.code.specs.Record.{Shape, sum}
 use Rattle.code.specs.Image.{all_tracks, image_size, cells}
 use Rattle.code.specs.Flags.{whole, AgreeOff}
 use Rattle.code.specs.Calls.{differ, changed_cells, changed_mask}
-use Rattle.code.specs.Sizes.{shape, Small}
-use Rattle.code.specs.declared.Sizes.{Sizes}
+use Rattle.code.specs.Reach.{Extra}
+use Rattle.code.specs.Sizes.{shape}
+use Rattle.code.specs.declared.sizes.Sizes.{Sizes}
 use Rattle.solver.specs.Solver.{marked}
 use Rattle.changes.specs.declared.Changes.{Changes}
 
@@ -19,8 +22,7 @@ unfoldable pub changed_at : ℕ → List ℕ → List ℕ → ℕ → ℕ
 changed_at l image out g = sum l (λ m. differ (get_or image (g * l + m) 0) (get_or out (g * l + m) 0))
 
 -- An image and an output that differ in marked tracks at the most.
-pub record OnlyMarked (z : Sizes) (marks image out : List ℕ) : Type 0 where
-  pub small : Small z
+pub record OnlyMarked (z : Sizes) (marks : List Bool) (image out : List ℕ) : Type 0 where
   pub marks_size : all_tracks (shape z) ≤ length marks
   pub image_has : length image ≡ image_size (shape z)
   pub out_has : length out ≡ image_size (shape z)
@@ -30,3 +32,8 @@ pub record OnlyMarked (z : Sizes) (marks image out : List ℕ) : Type 0 where
 pub record Counted (sh : Shape) (image out : List ℕ) (r : Changes) : Type 0 where
   pub mask_is : r.mask ≡ changed_mask sh (cells sh image) (cells sh out)
   pub cells_are : r.cells ≡ changed_cells sh (cells sh image) (cells sh out)
+
+-- The extras of both sets.
+abbrev pub names : Extra → Extra → TrackSet → Extra
+names a b A = a
+names a b B = b

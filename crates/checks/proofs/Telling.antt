@@ -3,7 +3,7 @@ use mathlib.Core.Path.{◌≡◌, sym, ◌∙◌}
 use mathlib.Core.Logic.{by_cases}
 use mathlib.Core.Bool.{Bool}
 use mathlib.Core.List.{List}
-use Prim.Native.Nat.{ℕ, ◌<◌}
+use Prim.Native.Nat.{ℕ, ◌<◌, ◌≤◌}
 use native.Mathlib.Decide.{dec_lt}
 use native.Mathlib.Omega.{arith}
 use borrow.Author.Tests.{eqb-true, eqb-false}
@@ -15,14 +15,15 @@ use Rattle.track.specs.Track.{Highest}
 use Rattle.track.proofs.Lost.{most_below}
 use Rattle.checks.specs.Lost.{LostTold}
 
-module _ (image : List ℕ) (most : ℕ) (h : Highest image most) where
-  -- Where no cell is bad, the highest byte is a value too.
-  pub most_lt : (values : ℕ) → 0 < values → ¬ first_bad values image < length image → most < values
-  most_lt values some good =
-      most_below image most h values some (λ i l. first_bad_before values image i (by_cases (dec_lt i (first_bad values image)) (λ k. k) (λ k. absurd (good (omega arith)))))
+-- Where no cell is bad:
+module _ (image : List ℕ) (most values : ℕ) (h : Highest image most) (good : first_bad values image ≡ length image) (some : 0 < values) (few : values ≤ read_values) where
+  -- the highest byte is a value too,
+  pub most_read : most < read_values
+  most_read = omega (arith, few, most_below image most h values some (λ i l. first_bad_before values image i (omega arith)))
 
-  pub told : most < read_values → (r : Bool) → r ≡ is_lost most → LostTold image r
-  told few r e = record {
-    bits = λ z i. by_cases (dec_lt most 2) (λ l. omega (arith, h.above i)) (λ l. absurd (eqb-false most 2 (sym e ∙ z) (omega arith)));
+  -- and tells it.
+  pub told : (r : Bool) → r ≡ is_lost most → LostTold image r
+  told r e = record {
+    bits = λ z i. by_cases (dec_lt most 2) (λ l. omega (arith, h.above i)) (λ l. absurd (eqb-false most 2 (sym e ∙ z) (omega (arith, most_read))));
     some = λ z all. omega (arith, eqb-true most 2 (sym e ∙ z), most_below image most h 2 (omega arith) all);
   }

@@ -4,7 +4,7 @@ use mathlib.Core.Bool.{true, false}
 use Prim.Native.Nat.{suc}
 use Rattle.code.specs.Record.{TrackSet, closed_tail, open_tail, Shape, data_tracks, tracks, track_length, vertical_end, tail_tracks}
 use Rattle.code.specs.Sizes.{closing_of, shape}
-use Rattle.code.specs.declared.Sizes.{Sizes}
+use Rattle.code.specs.declared.sizes.Sizes.{Sizes}
 
 -- The closing, by the sizes.
 pub is_closed : (z : Sizes) → z.closed ≡ true → (shape z).closing ≡ closed_tail

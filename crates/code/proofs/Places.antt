@@ -1,8 +1,8 @@
 -- Every byte of an image is one cell, and images with the same cells are the same bytes.
 use mathlib.Core.Path.{◌≡◌, sym, ap, ◌∙◌}
 use mathlib.Core.List.{List}
-use Prim.Native.Nat.{ℕ, ◌+◌, ◌*◌, ◌/◌, ◌%◌, ◌-◌, ◌<◌}
-use native.Mathlib.Nat.{div-add-mod', div-lt_iff_lt-mul, mod-lt}
+use Prim.Native.Nat.{ℕ, ◌+◌, ◌*◌, ◌/◌, ◌%◌, ◌-◌, ◌<◌, ◌≤◌}
+use native.Mathlib.Nat.{div-add-mod', div-lt_iff_lt-mul, mod-lt, mul-le-mul_right, suc-mul}
 use native.Mathlib.Decide.{dec_lt}
 use native.Mathlib.Omega.{arith}
 use lib.Arith.{digits_lt}
@@ -24,6 +24,10 @@ pub record Place (sh : Shape) (i : ℕ) : Type 0 where
 pub number_lt : (sh : Shape) (s : TrackSet) (t : ℕ) → t < tracks sh s → track_number sh s t < all_tracks sh
 number_lt sh A t h = omega arith
 number_lt sh B t h = omega arith
+
+-- A row of l cells ends within n rows.
+pub row_end : (l row n : ℕ) → row < n → row * l + l ≤ n * l
+row_end l row n h = omega (arith, mul-le-mul_right l h, suc-mul row l)
 
 -- A cell of the record is a byte of the image.
 pub cell_lt : (sh : Shape) (s : TrackSet) (t m : ℕ) → t < tracks sh s → m < track_length sh →

@@ -1,13 +1,17 @@
 -- Document 01, "The record": sets, tracks and positions, the four rules, good records.
 use Rattle.std.specs.Prelude.{◌≡◌, ℕ, zero, suc, ◌+◌, ◌*◌, ◌-◌, ◌<◌, ◌≤◌, ◌%◌}
-
--- The two sets of tracks.
-pub data TrackSet : Type 0 where
-  A B : TrackSet
+-- The two sets of tracks, A and B.
+pub use Rattle.code.specs.declared.sizes.TrackSet.{TrackSet}
+pub use Rattle.code.specs.declared.sizes.TrackSet.TheVariants.{A, B}
 
 abbrev pub other : TrackSet → TrackSet
 other A = B
 other B = A
+
+-- The row of a set in a table of both.
+abbrev pub row_of : TrackSet → ℕ
+row_of A = 0
+row_of B = 1
 
 -- The closing of the tail. Document 01's records are closed: rule 3 carries the vertical track through the tail.
 -- Where the tail is open, the vertical track is 0 there too, and rule 3 ends with the data.

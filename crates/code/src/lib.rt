@@ -4,17 +4,12 @@
 ghost use Rattle.std.specs.Prelude.{◌≡◌, ◌<◌};
 ghost use Rattle.code.specs.Lost.{byte_of, read_values, is_lost};
 ghost use Rattle.code.specs.Reach.{reach_code};
-ghost use Rattle.code.specs.Calls.{plain};
-ghost use Rattle.code.specs.Answers.{result_of};
 
-// The data tracks of set A and of set B, the data positions, and whether the tail is closed.
-#[derive(Clone, Copy)]
-pub struct Sizes {
-    pub t1: usize,
-    pub t2: usize,
-    pub positions: usize,
-    pub closed: bool,
-}
+mod answer;
+mod sizes;
+
+pub use answer::{Answer, Refusal};
+pub use sizes::{Sizes, TrackSet};
 
 // The code of a flagged tracks in set A and b in set B, a by row and b along it.
 pub const REACH: [[u8; 10]; 10] = [
@@ -34,13 +29,7 @@ pub const REACH: [[u8; 10]; 10] = [
 pub fn reach_code(a: usize, b: usize) -> u8
     ensures { result ≡ reach_code a b }
 {
-    if 10 <= a {
-        return 0;
-    }
-    if 10 <= b {
-        return 0;
-    }
-    REACH[a][b]
+    if a < 10 && b < 10 { REACH[a][b] } else { 0 }
 }
 
 // The extra tracks that are allowed, in A, in B and in all.
@@ -59,18 +48,16 @@ pub enum Reading {
     Lost,
 }
 
-// The reading of a cell. Here alone is it decided.
+// The reading of a cell. Here alone is it decided. (No `TryFrom`: a byte above 2 is refused by number 4 before, so that this cannot fail.)
 pub fn read_cell(x: u8) -> Reading
     requires { x < read_values }
     ensures { byte_of result ≡ x }
 {
-    if x == 0 {
-        return Reading::Zero;
+    match x {
+        0 => Reading::Zero,
+        1 => Reading::One,
+        _ => Reading::Lost,
     }
-    if x == 1 {
-        return Reading::One;
-    }
-    Reading::Lost
 }
 
 // Is a cell lost?
@@ -78,12 +65,7 @@ pub fn is_lost(x: u8) -> bool
     requires { x < read_values }
     ensures { result ≡ is_lost x }
 {
-    let reading = read_cell(x);
-    match reading {
-        Reading::Zero => false,
-        Reading::One => false,
-        Reading::Lost => true,
-    }
+    matches!(read_cell(x), Reading::Lost)
 }
 
 // A pair of a table: the index of a stretch's first cell in the image, and the number of its cells.
@@ -117,36 +99,4 @@ pub struct Stretch {
 pub struct Counted {
     pub answer: u32,
     pub entries: u32,
-}
-
-// No extra track, or one with its track number.
-#[derive(Clone, Copy)]
-pub enum Extra {
-    None,
-    Track(u32),
-}
-
-// What a call answers: 0 or a number, its detail, the changed mask and cells, and the extra of each set.
-#[derive(Clone, Copy)]
-pub struct Answer {
-    pub number: u32,
-    pub detail: u32,
-    pub mask: u32,
-    pub cells: u32,
-    pub a: Extra,
-    pub b: Extra,
-}
-
-// An answer with no changed cell and no extra.
-pub fn plain_answer(number: u32, detail: u32) -> Answer
-    ensures { result_of result ≡ plain number detail }
-{
-    Answer {
-        number,
-        detail,
-        mask: 0,
-        cells: 0,
-        a: Extra::None,
-        b: Extra::None,
-    }
 }

@@ -8,7 +8,9 @@ use native.Mathlib.Numerals.{add-one}
 use native.Mathlib.Omega.{arith}
 use lib.ListN.{length, get_or, take, drop}
 use lib.Seq.{length-take-le, get_or-take}
-use Rattle.code.specs.Record.{TrackSet, A, B, Shape, data_tracks, tracks, track_length, back, sum, vertical}
+use Rattle.code.specs.Record.{Shape, data_tracks, tracks, track_length, back, sum, vertical}
+use Rattle.code.specs.declared.sizes.TrackSet.{TrackSet}
+use Rattle.code.specs.declared.sizes.TrackSet.TheVariants.{A, B}
 use Rattle.code.specs.Image.{track_number, image_size, cells}
 use Rattle.code.specs.Calls.{Stays}
 use Rattle.code.proofs.Places.{each_cell}
@@ -32,10 +34,6 @@ put_image sh g stretch before after i b p = bits_image sh after (p.size ∙ i.si
     (λ d. rw (p.there _ m d k) (i.bits _)))
 
 -- ## Adding the data tracks
-
--- The first cells of a stretch of bits.
-pub front_bits : (n : ℕ) (xs : List ℕ) → n ≤ length xs → Bits xs → Bits (take n xs)
-front_bits n xs h b = record { bit = every (λ v. v < 2) (take n xs) (omega arith) (λ i l. rw (get_or-take n xs i 0 (omega (arith, length-take-le n xs h))) (b.bit i)) }
 
 -- At first none is added.
 pub added_none : (sh : Shape) (s : TrackSet) (image before : List ℕ) → Bits before → DataAdded sh s 0 image before before

@@ -5,11 +5,13 @@ use Prim.Native.Nat.{ℕ, suc, ◌+◌, ◌*◌, ◌<◌, ◌≤◌}
 use native.Mathlib.Decide.{dec_lt}
 use native.Mathlib.Omega.{arith}
 use borrow.Author.Tests.{lt-ltb, le-ltb}
-use Rattle.code.specs.Record.{TrackSet, A, B, Shape, data_tracks, track_length}
-use Rattle.code.specs.Image.{track_number, all_tracks}
+use Rattle.code.specs.Record.{Shape, data_tracks, track_length}
+use Rattle.code.specs.declared.sizes.TrackSet.{TrackSet}
+use Rattle.code.specs.declared.sizes.TrackSet.TheVariants.{A, B}
+use Rattle.code.specs.Image.{track_number, all_tracks, image_size}
 use Rattle.code.specs.Payload.{payload_index}
-use Rattle.track.proofs.Rows.{row_end}
-use Rattle.codec.specs.Steps.{data_number, DataNumber}
+use Rattle.code.proofs.Places.{row_end}
+use Rattle.codec.specs.Steps.{data_number, DataStart}
 
 -- The column that goes along track c + 1 of a set.
 abbrev pub column : Shape → TrackSet → ℕ → ℕ
@@ -31,8 +33,12 @@ module _ (sh : Shape) where
   by_number p P low high = by_cases (dec_lt p sh.t1) (λ h. low h (number_low p h)) (λ h. let k : sh.t1 ≤ p = omega arith in high k (number_high p k))
 
   -- An image has the track.
-  pub numbered : (p r : ℕ) → p < sh.t1 + sh.t2 → r ≡ data_number sh p → DataNumber sh p r
-  numbered p r h e = record { is = e; room = rw e (row_end (track_length sh) _ (all_tracks sh) (by_number p _ (λ k d. omega arith) (λ k d. omega arith))) }
+  pub number_room : (p : ℕ) → p < sh.t1 + sh.t2 → data_number sh p * track_length sh + track_length sh ≤ image_size sh
+  number_room p h = row_end (track_length sh) _ (all_tracks sh) (by_number p _ (λ k d. omega arith) (λ k d. omega arith))
+
+  -- It begins there.
+  pub starts : (p number r : ℕ) → p < sh.t1 + sh.t2 → r ≡ number * track_length sh → number ≡ data_number sh p → DataStart sh p r
+  starts p number r h e d = record { is = rw d at e; room = rw (e, d) (number_room p h) }
 
   -- A later column has another track.
   pub later_number : (p q : ℕ) → q < p → data_number sh p ≢ data_number sh q

@@ -8,22 +8,13 @@ use native.Mathlib.Omega.{arith}
 use borrow.Rule.Slice.PartMut.{put_mid}
 use lib.ListN.{length, get_or}
 use Rattle.code.specs.Record.{Shape, track_length}
-use Rattle.code.specs.Image.{image_size}
 use Rattle.code.proofs.Digits.{digits_same, digits_digit}
 use Rattle.track.specs.Track.{Unpacked}
 use Rattle.track.proofs.Rows.{part, part_length, part_row, new_length, new_here, new_there}
 use Rattle.syndrome.specs.Steps.{cells_of}
-use Rattle.codec.specs.Steps.{data_number, DataNumber, Filled, Filling}
+use Rattle.codec.specs.Steps.{data_number, Filled, Filling}
 use Rattle.codec.proofs.Columns.{later_number}
-use Rattle.codec.proofs.Rows.{number_room}
-
--- A track of 0 has no byte of a column yet.
-pub filled_none : (l w p : ℕ) (payload : List ℕ) (f : ℕ → ℕ) → ((m : ℕ) → m < l → f m ≡ 0) → Filled l 0 w p payload f
-filled_none l w p payload f none = record {
-  bit = λ m h. omega (arith, none m h);
-  byte = λ b h. absurd (omega arith);
-  rest = λ m h k. none m k;
-}
+use Rattle.codec.proofs.Rows.{track_room}
 
 -- One more byte is written.
 module _ (l n w p : ℕ) (payload before : List ℕ) (v : ℕ) (after : List ℕ) (f : Filled l n w p payload (cells_of before))
@@ -55,27 +46,26 @@ filled_same l n w p payload f g fits same r = record {
   rest = λ m h k. sym (same m k) ∙ r.rest m h k;
 }
 
--- An image of 0 has no column yet.
-pub filling_none : (sh : Shape) (n : ℕ) (payload image : List ℕ) → length image ≡ image_size sh → ((i : ℕ) → get_or image i 0 ≡ 0) → Filling sh n 0 payload image
-filling_none sh n payload image size none = record { size = size; done = λ q h. absurd (omega arith); rest = λ r m h k. none _ }
-
 -- The track of the next column.
-module _ (sh : Shape) (n p : ℕ) (payload image : List ℕ) (r : ℕ) (number : DataNumber sh p r) (f : Filling sh n p payload image) where
+module _ (sh : Shape) (n p : ℕ) (payload image : List ℕ) (column : p < sh.t1 + sh.t2) (f : Filling sh n p payload image) where
   abbrev l : ℕ
   l = track_length sh
 
   abbrev w : ℕ
   w = sh.t1 + sh.t2
 
+  abbrev r : ℕ
+  r = data_number sh p
+
   -- The image has it.
   room : r * l + l ≤ length image
-  room = number_room sh p image r number f.size
+  room = track_room sh p image column f.size
 
   -- It is 0.
   pub next_blank : (m : ℕ) → m < length (part l image r) → get_or (part l image r) m 0 ≡ 0
   next_blank m h =
       let k : m < l = omega (arith, part_length l image r room) in
-      part_row l image r room m k ∙ f.rest r m (λ q j. rw number.is (later_number sh p q j)) k
+      part_row l image r room m k ∙ f.rest r m (λ q. later_number sh p q) k
 
   -- It is written.
   pub filling_more : (ys : List ℕ) → length ys ≡ length (part l image r) → 8 * n ≤ l →
@@ -83,10 +73,10 @@ module _ (sh : Shape) (n p : ℕ) (payload image : List ℕ) (r : ℕ) (number :
   filling_more ys size fits t = record {
     size = new_length l image r room ys size ∙ f.size;
     done = λ q h. by_cases (ℕ_discrete q p)
-        (λ e. rw (e, sym number.is) (filled_same l n w p payload _ _ fits (λ m k. sym (new_here l image r room ys size m k)) (rw (part_length l image r room) at t)))
+        (λ e. rw e (filled_same l n w p payload _ _ fits (λ m k. sym (new_here l image r room ys size m k)) (rw (part_length l image r room) at t)))
         (λ d. filled_same l n w q payload _ _ fits (λ m k. sym (new_there l image r room ys size _ m (other q (omega arith)) k)) (f.done q (omega arith)));
-    rest = λ g m apart k. new_there l image r room ys size g m (rw number.is (apart p (omega arith))) k ∙ f.rest g m (λ q h. apart q (omega arith)) k;
+    rest = λ g m apart k. new_there l image r room ys size g m (apart p (omega arith)) k ∙ f.rest g m (λ q h. apart q (omega arith)) k;
   }
     where
       other : (q : ℕ) → q < p → data_number sh q ≢ r
-      other q h e = later_number sh p q h (sym (e ∙ number.is))
+      other q h e = later_number sh p q h (sym e)

@@ -1,5 +1,5 @@
 -- Reading the columns of a payload.
-use mathlib.Core.Path.{◌≡◌, refl, sym, ap, ◌∙◌}
+use mathlib.Core.Path.{◌≡◌, sym, ap, ◌∙◌}
 use mathlib.Core.Logic.{◌≢◌, by_cases}
 use mathlib.Core.List.{List}
 use Prim.Native.Nat.{ℕ, ◌+◌, ◌*◌, ◌%◌, ◌<◌, ◌≤◌}
@@ -14,12 +14,8 @@ use Rattle.code.specs.Image.{image_size}
 use Rattle.code.proofs.Digits.{digits_same}
 use Rattle.track.proofs.Rows.{part, part_row}
 use Rattle.syndrome.specs.Steps.{cells_of}
-use Rattle.codec.specs.Steps.{DataNumber, ColumnRead, Reading}
-use Rattle.codec.proofs.Rows.{number_room}
-
--- At first no byte is read.
-pub column_none : (w p : ℕ) (f : ℕ → ℕ) (before : List ℕ) → ColumnRead 0 w p f before before
-column_none w p f before = record { size = refl; here = λ b h. absurd (omega arith); there = λ b q h d. refl; later = λ i h. refl }
+use Rattle.codec.specs.Steps.{data_number, ColumnRead, Reading}
+use Rattle.codec.proofs.Rows.{track_room}
 
 -- One more byte is read.
 module _ (n w p : ℕ) (f : ℕ → ℕ) (before now : List ℕ) (v : ℕ) (column : p < w) where
@@ -39,24 +35,20 @@ module _ (n w p : ℕ) (f : ℕ → ℕ) (before now : List ℕ) (v : ℕ) (colu
         get_or-set_other now _ i v 0 (omega (arith, digits_lt l column)) ∙ r.later i (omega (arith, digits_lt l column));
   }
 
--- At first no column is read.
-pub reading_none : (sh : Shape) (n : ℕ) (image before : List ℕ) → Reading sh n 0 image before before
-reading_none sh n image before = record { size = refl; done = λ b q h k. absurd (omega arith); later = λ i h. refl }
-
 -- The track of the next column is read.
-module _ (sh : Shape) (n p : ℕ) (image before now after : List ℕ) (r : ℕ) (number : DataNumber sh p r) (size : length image ≡ image_size sh) where
+module _ (sh : Shape) (n p : ℕ) (image before now after : List ℕ) (column : p < sh.t1 + sh.t2) (size : length image ≡ image_size sh) where
   abbrev l : ℕ
   l = track_length sh
 
   abbrev w : ℕ
   w = sh.t1 + sh.t2
 
-  pub reading_more : 8 * n ≤ l → p < w → Reading sh n p image before now →
-      ColumnRead n w p (cells_of (part l image r)) now after → Reading sh n (p + 1) image before after
-  reading_more fits column f c = record {
+  pub reading_more : 8 * n ≤ l → Reading sh n p image before now →
+      ColumnRead n w p (cells_of (part l image (data_number sh p))) now after → Reading sh n (p + 1) image before after
+  reading_more fits f c = record {
     size = c.size ∙ f.size;
     done = λ b q h k. by_cases (ℕ_discrete q p)
-        (λ e. rw (e, sym number.is) (c.here b h ∙ digits_same 8 _ _ (λ i j. part_row l image r (number_room sh p image r number size) (8 * b + i) (omega arith))))
+        (λ e. rw e (c.here b h ∙ digits_same 8 _ _ (λ i j. part_row l image (data_number sh p) (track_room sh p image column size) (8 * b + i) (omega arith))))
         (λ d. c.there b q (omega arith) d ∙ f.done b q h (omega arith));
     later = λ i h. c.later i h ∙ f.later i h;
   }

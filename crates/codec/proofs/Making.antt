@@ -1,19 +1,20 @@
 -- The record that the encoder makes is the good record of the payload.
-use mathlib.Core.Path.{◌≡◌, refl, sym, ◌∙◌}
+use mathlib.Core.Path.{◌≡◌, refl, sym, ap, ◌∙◌}
 use mathlib.Core.Logic.{◌≢◌, by_cases}
-use mathlib.Core.Bool.{true}
 use mathlib.Core.List.{List}
 use Prim.Native.Nat.{ℕ, zero, suc, ◌+◌, ◌*◌, ◌%◌, ◌<◌, ◌≤◌}
 use native.Mathlib.Decide.{ℕ_discrete}
 use native.Mathlib.Omega.{arith}
 use lib.ListN.{get_or}
-use Rattle.code.specs.Record.{TrackSet, A, B, Shape, data_tracks, tracks, track_length, Cells, vertical}
+use Rattle.code.specs.Record.{base, Shape, data_tracks, tracks, track_length, Cells, vertical}
+use Rattle.code.specs.declared.sizes.TrackSet.{TrackSet}
+use Rattle.code.specs.declared.sizes.TrackSet.TheVariants.{A, B}
 use Rattle.code.specs.Image.{track_number, cells}
 use Rattle.code.specs.Sizes.{shape}
-use Rattle.code.specs.declared.Sizes.{Sizes}
+use Rattle.code.specs.declared.sizes.Sizes.{Sizes}
 use Rattle.code.proofs.Sums.{sum_same}
 use Rattle.code.proofs.Cell.{vertical_within}
-use Rattle.code.proofs.Closings.{is_closed, closed_tracks}
+use Rattle.code.proofs.Closings.{closed_tracks}
 use Rattle.syndrome.specs.Syndrome.{Image}
 use Rattle.syndrome.specs.Steps.{TailZero}
 use Rattle.registers.specs.Register.{of_set}
@@ -122,16 +123,18 @@ module _ (z : Sizes) (n : ℕ) (payload out : List ℕ) (f : Filling (shape z) n
   tails_stay positions d first after p s t i h = record { zero = λ m. (data_of positions (cells sh after) (data_stay sh d first out after p)).tail s t m i h }
 
   -- With check tracks the record is the payload's good record.
-  module _ (sevens : Sevens sh n) (closed : z.closed ≡ true) (a b mid after : List ℕ) (c : Carried n payload a b) (p : ChecksPut sh A a out mid) (q : ChecksPut sh B b mid after) where
+  module _ (is_base : sh ≡ base n) (a b mid after : List ℕ) (c : Carried n payload a b) (p : ChecksPut sh A a out mid) (q : ChecksPut sh B b mid after) where
     pub good_record : GoodRecord sh n payload after
     good_record =
+        let sevens : Sevens sh n = record { t1_seven = ap (λ s. s.t1) is_base; t2_seven = ap (λ s. s.t2) is_base; blocks = ap (λ s. s.positions) is_base } in
+        let closed = ap (λ s. s.closing) is_base in
         let d = data_of sevens.blocks (cells sh after) (data_stays sh a b out mid after p q) in
         record {
           good = record {
             bits = λ s t m i h. q.image.bits _;
             diagonals = c.even sh (cells sh after) sevens d (checks_of sh a b out mid after p q);
             verticals = λ s m h. even_vertical sh a b out mid after p q s m (omega (arith, vertical_within sh));
-            tail = λ s t m i h. d.tail s t m i (omega (arith, closed_tracks sh (is_closed z closed) s));
+            tail = λ s t m i h. d.tail s t m i (omega (arith, closed_tracks sh closed s));
           };
           carries = d.carries;
         }

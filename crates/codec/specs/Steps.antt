@@ -1,11 +1,12 @@
 -- What the private functions ask and give.
 use Rattle.std.specs.Prelude.{◌≡◌, ◌≢◌, List, ℕ, suc, ◌+◌, ◌*◌, ◌%◌, ◌<◌, ◌≤◌, ltb, length, get_or}
-use Rattle.code.specs.Record.{TrackSet, Shape, data_tracks, track_length, sum, vertical, Good}
+use Rattle.code.specs.Record.{Shape, data_tracks, track_length, sum, vertical, Good}
+use Rattle.code.specs.declared.sizes.TrackSet.{TrackSet}
 use Rattle.code.specs.Image.{track_number, image_size, cells}
 use Rattle.code.specs.Payload.{digits, payload_size, Carries}
 use Rattle.code.specs.Reach.{pick}
-use Rattle.code.specs.Sizes.{shape, Small}
-use Rattle.code.specs.declared.Sizes.{Sizes}
+use Rattle.code.specs.Sizes.{shape}
+use Rattle.code.specs.declared.sizes.Sizes.{Sizes}
 use Rattle.track.specs.Track.{row, Bits}
 use Rattle.syndrome.specs.Syndrome.{Image}
 
@@ -13,7 +14,6 @@ use Rattle.syndrome.specs.Syndrome.{Image}
 
 -- A record of n blocks: its sizes, an image of it, and room for its payload.
 pub record Sized (z : Sizes) (n : ℕ) (image payload : List ℕ) : Type 0 where
-  pub small : Small z
   pub positions : z.positions ≡ 8 * n
   pub whole : length image ≡ image_size (shape z)
   pub room : payload_size (shape z) n ≤ length payload
@@ -28,10 +28,10 @@ pub record Column (l n w p : ℕ) (payload : List ℕ) : Type 0 where
 unfoldable pub data_number : Shape → ℕ → ℕ
 data_number sh p = pick (ltb p sh.t1) (p + 1) (p + 3)
 
--- An image has that track.
-pub record DataNumber (sh : Shape) (p r : ℕ) : Type 0 where
-  pub is : r ≡ data_number sh p
-  pub room : r * track_length sh + track_length sh ≤ image_size sh
+-- There it begins, and an image has it.
+pub record DataStart (sh : Shape) (p r : ℕ) : Type 0 where
+  pub is : r ≡ data_number sh p * track_length sh
+  pub room : r + track_length sh ≤ image_size sh
 
 -- The first n bytes of column p are a track's first cells, and the rest of it is 0.
 pub record Filled (l n w p : ℕ) (payload : List ℕ) (f : ℕ → ℕ) : Type 0 where

@@ -1,21 +1,20 @@
 // Encoder and reader.
 #![tactic(auto)]
 
-ghost use Rattle.std.specs.Prelude.{◌≡◌, true, ℕ, ◌+◌, ◌*◌, ◌<◌, ◌≤◌, length, get_or};
-ghost use Rattle.code.specs.Record.{data_tracks, track_length};
+ghost use Rattle.std.specs.Prelude.{◌≡◌, true, ℕ, ◌+◌, ◌*◌, ◌^◌, ◌<◌, ◌≤◌, length, get_or};
+ghost use Rattle.code.specs.Record.{base, data_tracks, track_length};
 ghost use Rattle.code.specs.Image.{image_size, cells};
-ghost use Rattle.code.specs.Sizes.{shape, Small};
+ghost use Rattle.code.specs.Sizes.{shape};
 ghost use Rattle.code.specs.Promises.{Encoded, WasRead};
-ghost use Rattle.code.specs.Answers.{result_of};
+ghost use Rattle.code.specs.Answers.{done_of};
 ghost use Rattle.track.specs.Track.{Bits};
 ghost use Rattle.checks.specs.Lost.{LostTold};
-ghost use Rattle.registers.specs.Steps.{Sevens};
-ghost use Rattle.syndrome.specs.Syndrome.{set_of, Image, Tested};
+ghost use Rattle.syndrome.specs.Syndrome.{Image, Tested};
 ghost use Rattle.syndrome.specs.Steps.{cells_of, TailZero};
 ghost use Rattle.codec.specs.Steps.{
   Sized,
   Column,
-  DataNumber,
+  DataStart,
   Filled,
   Filling,
   ColumnRead,
@@ -26,15 +25,19 @@ ghost use Rattle.codec.specs.Steps.{
   GoodRecord,
 };
 
-use code::{Answer, Sizes, plain_answer};
+use code::{Refusal, Sizes, TrackSet};
 
-// The number of the track along which byte p of each block goes.
-fn data_number(z: Sizes, p: usize) -> usize
-    requires small { Small z }
-    requires p_bound { p < z.t1 + z.t2 }
-    ensures { DataNumber (shape z) p result }
+// Output, sizes, payload and blocks (`Sized`) go through four functions of the encoder, each of which lends the output on: a struct that
+// holds it with a fact is covered by the checker behind a `&mut` alone, and would be made by `write_by` and taken apart below it. That the sizes are document 01's, or closed, is asked where it is used alone:
+// sizes in general are neither.
+
+// Where the track begins in an image along which byte p of each block goes.
+fn data_start(z: Sizes, p: usize) -> usize
+    requires { p < z.t1 + z.t2 }
+    ensures { DataStart (shape z) p result }
 {
-    if p < z.t1 { p + 1 } else { p + 3 }
+    let number = if p < z.t1 { p + 1 } else { p + 3 };
+    number * z.track_length()
 }
 
 // ---- Encoder
@@ -45,10 +48,8 @@ fn write_track(stretch: &mut [u8], payload: &[u8], first: usize, step: usize, bl
     requires by_index { (m : ℕ) → m < length stretch.old → get_or stretch.old m 0 ≡ 0 }
     ensures { Filled (length stretch.old) blocks step first payload.now (cells_of stretch.new) }
 {
-    let mut b = 0;
-    while b < blocks {
+    for b in 0..blocks {
         track::unpack(stretch, 8 * b, payload[b * step + first]);
-        b += 1;
     }
 }
 
@@ -58,14 +59,11 @@ fn write_data(out: &mut [u8], z: Sizes, payload: &[u8], blocks: usize)
     ensures { Filling (shape z) blocks (z.t1 + z.t2) payload.now out.new }
 {
     let width = z.t1 + z.t2;
-    let l = z.positions + (z.t1 + z.t2 + 1);
-    track::clear(out);
-    let mut p = 0;
-    while p < width {
-        let start = data_number(z, p) * l;
-        let end = start + l;
+    out.fill(0);
+    for p in 0..width {
+        let start = data_start(z, p);
+        let end = start + z.track_length();
         write_track(&mut out[start..end], payload, p, width, blocks);
-        p += 1;
     }
 }
 
@@ -77,99 +75,88 @@ fn put_track(out: &mut [u8], g: usize, stretch: &[u8])
     let l = stretch.len();
     let start = g * l;
     let end = start + l;
-    track::copy_into(&mut out[start..end], stretch);
+    out[start..end].copy_from_slice(stretch);
 }
 
 // Adds the data tracks of a set to a stretch. Their tails are 0 and are left out.
-fn add_data(sums: &mut [u8], image: &[u8], z: Sizes, s: usize)
-    requires small { Small z }
-    requires s_bound { s < 2 }
+fn add_data(sums: &mut [u8], image: &[u8], z: Sizes, s: TrackSet)
     requires image { Image (shape z) image.now }
     requires sums_len { length sums.old ≡ track_length (shape z) }
     requires bits { Bits sums.old }
-    requires tail_zero { TailZero (shape z) (cells (shape z) image.now) (set_of s) }
-    ensures { DataAdded (shape z) (set_of s) (data_tracks (shape z) (set_of s)) image.now sums.old sums.new }
+    requires tail_zero { TailZero (shape z) (cells (shape z) image.now) s }
+    ensures { DataAdded (shape z) s (data_tracks (shape z) s) image.now sums.old sums.new }
 {
-    let l = z.positions + (z.t1 + z.t2 + 1);
     let n = z.positions;
-    let count = syndrome::data_tracks(z, s);
-    let mut c = 0;
-    while c < count {
-        let start = syndrome::track_number(z, s, c + 1) * l;
+    for c in 0..z.data_tracks(s) {
+        let start = z.track_number(s, c + 1) * z.track_length();
         let end = start + n;
         track::add_track(&mut sums[..n], &image[start..end], 0);
-        c += 1;
     }
 }
 
 // Writes the check tracks of a set. Track 0 is at hand, and the vertical track is the sum of it and of the data tracks.
-fn write_checks(out: &mut [u8], first: &mut [u8], z: Sizes, s: usize)
-    requires small { Small z }
-    requires s_bound { s < 2 }
+fn write_checks(out: &mut [u8], first: &mut [u8], z: Sizes, s: TrackSet)
     requires image { Image (shape z) out.old }
     requires first_len { length first.old ≡ track_length (shape z) }
     requires bits { Bits first.old }
-    requires tail_zero { TailZero (shape z) (cells (shape z) out.old) (set_of s) }
-    ensures { ChecksPut (shape z) (set_of s) first.old out.old out.new }
+    requires tail_zero { TailZero (shape z) (cells (shape z) out.old) s }
+    ensures { ChecksPut (shape z) s first.old out.old out.new }
 {
-    let count = syndrome::data_tracks(z, s);
-    put_track(out, syndrome::track_number(z, s, 0), first);
+    put_track(out, z.track_number(s, 0), first);
     add_data(first, out, z, s);
-    put_track(out, syndrome::track_number(z, s, count + 1), first);
+    put_track(out, z.track_number(s, z.data_tracks(s) + 1), first);
 }
 
-// Writes the good record of a payload, of seven data tracks a set and with a closed tail, by way of tracks 0 of A and of B.
+// Writes the good record of a payload, by way of tracks 0 of A and of B.
 fn write_by(out: &mut [u8], z: Sizes, payload: &[u8], blocks: usize, a: &mut [u8], b: &mut [u8])
     requires sized { Sized z blocks out.old payload.now }
-    requires sevens { Sevens (shape z) blocks }
-    requires closed_value { z.closed ≡ true }
+    requires is_base { shape z ≡ base blocks }
     requires a_len { length a.old ≡ track_length (shape z) }
     requires b_len { length b.old ≡ track_length (shape z) }
     ensures { GoodRecord (shape z) blocks payload.now out.new }
 {
     write_data(out, z, payload, blocks);
     registers::carry(a, b, payload, blocks);
-    write_checks(out, a, z, 0);
-    write_checks(out, b, z, 1);
+    write_checks(out, a, z, TrackSet::A);
+    write_checks(out, b, z, TrackSet::B);
 }
 
-// The same, with room made for the tracks. A short record takes less.
-fn write_record(out: &mut [u8], z: Sizes, payload: &[u8], blocks: usize)
+// The same, with room for tracks of N cells: fixed memory.
+fn write_in<const N: usize>(out: &mut [u8], z: Sizes, payload: &[u8], blocks: usize)
     requires sized { Sized z blocks out.old payload.now }
-    requires sevens { Sevens (shape z) blocks }
-    requires closed_value { z.closed ≡ true }
+    requires is_base { shape z ≡ base blocks }
+    requires room { track_length (shape z) ≤ N }
+    requires room_small { N < 2 ^ 63 }
     ensures { GoodRecord (shape z) blocks payload.now out.new }
 {
-    let l = 8 * blocks + 15;
-    if l <= 143 {
-        let mut room_a = [0u8; 143];
-        let mut room_b = [0u8; 143];
-        write_by(out, z, payload, blocks, &mut room_a[..l], &mut room_b[..l]);
+    let l = z.track_length();
+    let mut room_a = [0; N];
+    let mut room_b = [0; N];
+    write_by(out, z, payload, blocks, &mut room_a[..l], &mut room_b[..l]);
+}
+
+// The same. A short record takes less room.
+fn write_record(out: &mut [u8], z: Sizes, payload: &[u8], blocks: usize)
+    requires sized { Sized z blocks out.old payload.now }
+    requires is_base { shape z ≡ base blocks }
+    ensures { GoodRecord (shape z) blocks payload.now out.new }
+{
+    if z.track_length() <= 143 {
+        write_in::<143>(out, z, payload, blocks);
     } else {
-        let mut room_a = [0u8; 2063];
-        let mut room_b = [0u8; 2063];
-        write_by(out, z, payload, blocks, &mut room_a[..l], &mut room_b[..l]);
+        write_in::<2063>(out, z, payload, blocks);
     }
 }
 
 // Encoder: the payload's good record goes to the start of the output.
-pub fn encode(blocks: u32, payload: &[u8], out: &mut [u8]) -> Answer
-    ensures { Encoded blocks payload.now out.old (result_of result) out.new }
+pub fn encode(blocks: u32, payload: &[u8], out: &mut [u8]) -> Result<(), Refusal>
+    ensures { Encoded blocks payload.now out.old (done_of result) out.new }
 {
     let n = blocks as usize;
     let size = 18 * (8 * n + 15);
-    let first = checks::check_sizes(blocks, payload.len(), n * 14, out.len(), size);
-    if first.number != 0 {
-        return first;
-    }
-    let z = Sizes {
-        t1: 7,
-        t2: 7,
-        positions: 8 * n,
-        closed: true,
-    };
-    write_record(&mut out[..size], z, payload, n);
-    plain_answer(0, 0)
+    checks::check_sizes(blocks, payload.len(), n * 14, out.len(), size)?;
+    write_record(&mut out[..size], Sizes::of_blocks(n), payload, n);
+    Ok(())
 }
 
 // ---- Reader
@@ -180,33 +167,28 @@ fn read_track(out: &mut [u8], stretch: &[u8], first: usize, step: usize, blocks:
     requires bits { Bits stretch.now }
     ensures { ColumnRead blocks step first (cells_of stretch.now) out.old out.new }
 {
-    let mut b = 0;
-    while b < blocks {
+    for b in 0..blocks {
         out[b * step + first] = track::pack(stretch, 8 * b);
-        b += 1;
     }
 }
 
-// Reads the data tracks.
+// Reads the data tracks. (Not one function with `write_data`, nor `read_track` with `write_track`: there the tracks are written and
+// here the payload, so that each loan is another; what they share is `data_start`.)
 fn read_data(out: &mut [u8], z: Sizes, image: &[u8], blocks: usize)
     requires sized { Sized z blocks image.now out.old }
     requires bits { Bits image.now }
     ensures { Reading (shape z) blocks (z.t1 + z.t2) image.now out.old out.new }
 {
     let width = z.t1 + z.t2;
-    let l = z.positions + (z.t1 + z.t2 + 1);
-    let mut p = 0;
-    while p < width {
-        let start = data_number(z, p) * l;
-        let end = start + l;
+    for p in 0..width {
+        let start = data_start(z, p);
+        let end = start + z.track_length();
         read_track(out, &image[start..end], p, width, blocks);
-        p += 1;
     }
 }
 
 // Is an image of bits a good record? By way of four rows of bytes.
 fn good_by(image: &[u8], z: Sizes, syn: &mut [u8]) -> bool
-    requires small { Small z }
     requires closed_value { z.closed ≡ true }
     requires image { Image (shape z) image.now }
     requires syn_len { length syn.old ≡ 4 * track_length (shape z) }
@@ -216,46 +198,44 @@ fn good_by(image: &[u8], z: Sizes, syn: &mut [u8]) -> bool
     syndrome::is_good(image, syn, z)
 }
 
+// The same, with room for rows of N bytes in all: fixed memory.
+fn good_in<const N: usize>(image: &[u8], z: Sizes) -> bool
+    requires closed_value { z.closed ≡ true }
+    requires image { Image (shape z) image.now }
+    requires room { 4 * track_length (shape z) ≤ N }
+    requires room_small { N < 2 ^ 63 }
+    ensures { Tested (shape z) (cells (shape z) image.now) result }
+{
+    let mut room = [0; N];
+    good_by(image, z, &mut room[..4 * z.track_length()])
+}
+
 // Is an image a good record? One with a lost cell is not. A short record takes less room.
 fn image_good(image: &[u8], z: Sizes, lost: bool) -> bool
-    requires small { Small z }
     requires closed_value { z.closed ≡ true }
     requires image_len { length image.now ≡ image_size (shape z) }
     requires lost_told { LostTold image.now lost }
     ensures { Tested (shape z) (cells (shape z) image.now) result }
 {
     if lost {
-        return false;
-    }
-    let l = z.positions + (z.t1 + z.t2 + 1);
-    if l <= 143 {
-        let mut room = [0u8; 572];
-        good_by(image, z, &mut room[..4 * l])
+        false
+    } else if z.track_length() <= 143 {
+        good_in::<572>(image, z)
     } else {
-        let mut room = [0u8; 8252];
-        good_by(image, z, &mut room[..4 * l])
+        good_in::<8252>(image, z)
     }
 }
 
 // Reader: the payload of a good record goes to the start of the output.
-pub fn read(blocks: u32, image: &[u8], out: &mut [u8]) -> Answer
-    ensures { WasRead blocks image.now out.old (result_of result) out.new }
+pub fn read(blocks: u32, image: &[u8], out: &mut [u8]) -> Result<(), Refusal>
+    ensures { WasRead blocks image.now out.old (done_of result) out.new }
 {
     let n = blocks as usize;
-    let seen = checks::check_image(blocks, image, 3, 18 * (8 * n + 15), out.len(), n * 14);
-    let first = seen.answer;
-    if first.number != 0 {
-        return first;
-    }
-    let z = Sizes {
-        t1: 7,
-        t2: 7,
-        positions: 8 * n,
-        closed: true,
-    };
-    if !image_good(image, z, seen.lost) {
-        return plain_answer(7, 0);
+    let lost = checks::check_image(blocks, image, 3, 18 * (8 * n + 15), out.len(), n * 14)?;
+    let z = Sizes::of_blocks(n);
+    if !image_good(image, z, lost) {
+        return Err(Refusal::NoRecord);
     }
     read_data(out, z, image, n);
-    plain_answer(0, 0)
+    Ok(())
 }

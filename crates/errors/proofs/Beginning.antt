@@ -3,15 +3,16 @@ use mathlib.Core.Path.{◌≡◌, refl, sym, ap, ◌∙◌}
 use mathlib.Core.List.{List}
 use Prim.Native.Nat.{ℕ, ◌+◌, ◌*◌, ◌<◌, ◌≤◌, ◌%◌}
 use native.Mathlib.Omega.{arith}
-use Rattle.code.specs.Record.{TrackSet, A, B, other, track_length}
+use Rattle.code.specs.declared.sizes.TrackSet.{TrackSet}
+use Rattle.code.specs.declared.sizes.TrackSet.TheVariants.{A, B}
+use Rattle.code.specs.Record.{other, track_length, row_of}
 use Rattle.code.specs.Sizes.{shape}
-use Rattle.code.specs.declared.Sizes.{Sizes}
+use Rattle.code.specs.declared.sizes.Sizes.{Sizes}
 use Rattle.code.proofs.Sums.{back_zero}
 use Rattle.code.proofs.Cell.{lag_sets}
 use Rattle.code.proofs.OneTrack.{offset}
-use Rattle.syndrome.specs.Syndrome.{set_of, row_of}
 use Rattle.plans.specs.declared.Form.{Form}
-use Rattle.plans.specs.Plans.{pivot}
+use Rattle.plans.specs.Plans.{pivot, count, v_of, u_of}
 use Rattle.forms.specs.Streams.{Stream, cut}
 use Rattle.forms.specs.Forms.{left, met, gap, point}
 use Rattle.forms.specs.Found.{extent, only_in, ahead, across, stride, residue, pivot_sum}
@@ -33,10 +34,10 @@ module _ (z : Sizes) (end : ℕ) (p : Form) (rows found : List ℕ) (given : Giv
   W = verticals rows
 
   abbrev s : TrackSet
-  s = set_of p.s
+  s = (v_of p).s
 
   abbrev q : TrackSet
-  q = set_of p.q
+  q = (u_of p).s
 
   sum_zero : 0 < start → (d : TrackSet) (m : ℕ) → m < 64 * (start + 1) → m < track_length (shape z) → D d m ≡ 0
   sum_zero n A m h b = quiet.zero n 0 m (omega arith) h b
@@ -64,17 +65,17 @@ module _ (z : Sizes) (end : ℕ) (p : Form) (rows found : List ℕ) (given : Giv
     back_zero (cut end x) m (offset (shape z) d c j) (λ r e. cut_zero end x r (λ k. none r (at_j r e))),
   )
 
-  order : Ordered (shape z) (pivot p) p.below s p.v q p.u
+  order : Ordered (shape z) (pivot p) (count p) s (v_of p).t q (u_of p).t
   order = form_order (shape z) p given.sized
 
-  numbers : 2 ≤ p.below → Strides (shape z) s p.v (pivot p s) q p.u (pivot p q) (extent (shape z) end p.u)
+  numbers : 2 ≤ count p → Strides (shape z) s (v_of p).t (pivot p s) q (u_of p).t (pivot p q) (extent (shape z) end (u_of p).t)
   numbers = form_strides (shape z) end p given.sized given.end_small
 
   point_small : (d c : TrackSet) (t j : ℕ) → t ≤ 7 → point (shape z) d c t j ≤ 15
   unfolding point
   point_small A A t j h = omega arith
-  point_small A B t j h = omega (arith, given.small)
-  point_small B A t j h = omega (arith, given.small)
+  point_small A B t j h = omega arith
+  point_small B A t j h = omega arith
   point_small B B t j h = omega arith
 
   error_zero : (r : ℕ) → r < 5 → (m : ℕ) → m < 64 * start → cell found r m ≡ 0
@@ -87,9 +88,9 @@ module _ (z : Sizes) (end : ℕ) (p : Form) (rows found : List ℕ) (given : Giv
   residue_zero U none d m l b = omega (
     arith,
     left_zero (omega arith) d m (omega arith) b,
-    low_zero p.below (met (shape z) end (cell found 1) d s p.v (pivot p s) m) (met (shape z) end U d q p.u (pivot p q) m)
-        (λ h. met_zero (cell found 1) (error_zero 1 (omega arith)) d s p.v (pivot p s) m (λ r e. omega arith) (λ r e. omega arith))
-        (λ h. met_zero U none d q p.u (pivot p q) m (λ r e. omega arith) (λ r e. omega arith)),
+    low_zero (count p) (met (shape z) end (cell found 1) d s (v_of p).t (pivot p s) m) (met (shape z) end U d q (u_of p).t (pivot p q) m)
+        (λ h. met_zero (cell found 1) (error_zero 1 (omega arith)) d s (v_of p).t (pivot p s) m (λ r e. omega arith) (λ r e. omega arith))
+        (λ h. met_zero U none d q (u_of p).t (pivot p q) m (λ r e. omega arith) (λ r e. omega arith)),
   )
 
   -- So the equations hold before the start.
@@ -98,31 +99,31 @@ module _ (z : Sizes) (end : ℕ) (p : Form) (rows found : List ℕ) (given : Giv
     pair = λ h m l b. let n = numbers h in
         let bu = order.u_below h in
         let bv = order.v_below (omega arith) in
-        let a = point_small (other s) q p.u (pivot p q) (omega (arith, data_seven z q given.small)) in
+        let a = point_small (other s) q (u_of p).t (pivot p q) (omega (arith, data_seven z q)) in
         omega (
           arith,
           error_zero 4 (omega arith) m l,
           left_zero (omega arith) (other s) (m + ahead (shape z) end p) (omega arith) (omega arith),
-          back_zero (left (shape z) end D W p s) (m + ahead (shape z) end p + p.v) (across (shape z) end p)
-              (λ r e. left_zero (omega arith) s r (omega (arith, data_seven z s given.small)) (omega arith)),
+          back_zero (left (shape z) end D W p s) (m + ahead (shape z) end p + (v_of p).t) (across (shape z) end p)
+              (λ r e. left_zero (omega arith) s r (omega (arith, data_seven z s)) (omega arith)),
           back_zero (cell found 4) m (stride (shape z) end p) (λ r e. error_zero 4 (omega arith) r (omega arith)),
         );
     upper = λ h m l b. omega (
       arith,
       error_zero 0 (omega arith) m l,
       error_zero 4 (omega arith) m l,
-      back_zero (cell found 0) m (gap (shape z) q p.u (pivot p q)) (λ r e. error_zero 0 (omega arith) r (omega arith)),
+      back_zero (cell found 0) m (gap (shape z) q (u_of p).t (pivot p q)) (λ r e. error_zero 0 (omega arith) r (omega arith)),
     );
-    upper_end = λ h m l b e. error_zero 0 (omega arith) m l ∙ sym (at_zero_none p.u _
+    upper_end = λ h m l b e. error_zero 0 (omega arith) m l ∙ sym (at_zero_none (u_of p).t _
         (ap (λ v. v % 2) (residue_zero (cut end (cell found 0)) (λ r k. cut_zero end (cell found 0) r (λ n. error_zero 0 (omega arith) r k)) q m l b)));
     lower = λ h m l b. let bv = order.v_below h in
         omega (
           arith,
           error_zero 1 (omega arith) m l,
-          left_zero (omega arith) s (m + p.v) (omega (arith, data_seven z s given.small)) (omega (arith, extent_fits (shape z) (track_length (shape z)) p.v (omega arith) (omega (arith, lag_sets (shape z) s)))),
-          low_zero p.below 0 (met (shape z) end (cell found 0) s q p.u (pivot p q) (m + p.v)) (λ k. refl)
-              (λ k. let n = numbers k in met_zero (cell found 0) (error_zero 0 (omega arith)) s q p.u (pivot p q) (m + p.v) (λ r e. omega arith) (λ r e. omega arith)),
-          back_zero (cut end (cell found 1)) m (gap (shape z) s p.v (pivot p s)) (λ r e. cut_zero end (cell found 1) r (λ k. error_zero 1 (omega arith) r (omega arith))),
+          left_zero (omega arith) s (m + (v_of p).t) (omega (arith, data_seven z s)) (omega (arith, extent_fits (shape z) (track_length (shape z)) (v_of p).t (omega arith) (omega (arith, lag_sets (shape z) s)))),
+          low_zero (count p) 0 (met (shape z) end (cell found 0) s q (u_of p).t (pivot p q) (m + (v_of p).t)) (λ k. refl)
+              (λ k. let n = numbers k in met_zero (cell found 0) (error_zero 0 (omega arith)) s q (u_of p).t (pivot p q) (m + (v_of p).t) (λ r e. omega arith) (λ r e. omega arith)),
+          back_zero (cut end (cell found 1)) m (gap (shape z) s (v_of p).t (pivot p s)) (λ r e. cut_zero end (cell found 1) r (λ k. error_zero 1 (omega arith) r (omega arith))),
         );
     lower_end = λ h m l b. error_zero 1 (omega arith) m l;
   }
@@ -134,7 +135,7 @@ module _ (z : Sizes) (end : ℕ) (p : Form) (rows found : List ℕ) (given : Giv
   sums_zero c m l b = omega (
     arith,
     vertical_zero (omega arith) c m (omega arith) b,
-    low_zero p.below (only_in s c (cell found 1 m)) (only_in q c (cell found 0 m))
+    low_zero (count p) (only_in s c (cell found 1 m)) (only_in q c (cell found 0 m))
         (λ h. ap (only_in s c) (error_zero 1 (omega arith) m l) ∙ only_zero s c) (λ h. ap (only_in q c) (error_zero 0 (omega arith) m l) ∙ only_zero q c),
   )
     where
@@ -160,10 +161,10 @@ module _ (z : Sizes) (end : ℕ) (p : Form) (rows found : List ℕ) (given : Giv
 
   -- ## Pivots alone: nothing is wrong up to a word past the start
 
-  module _ (none : p.below ≡ 0) (pos : 0 < start) (after : List ℕ) (zero : (c : TrackSet) (m : ℕ) → m < 64 * (start + 1) → cell after (2 + row_of c) m ≡ 0) where
+  module _ (none : count p ≡ 0) (pos : 0 < start) (after : List ℕ) (zero : (c : TrackSet) (m : ℕ) → m < 64 * (start + 1) → cell after (2 + row_of c) m ≡ 0) where
     bare_sum : (c : TrackSet) (m : ℕ) → m < 64 * (start + 1) → m < track_length (shape z) → pivot_sum (shape z) end p D W (cell after 0) (cell after 1) c m ≡ 0
     unfolding pivot_sum
-    bare_sum c m l b = omega (arith, vertical_zero pos c m l b, low_zero p.below (only_in s c (cell after 1 m)) (only_in q c (cell after 0 m)) (λ h. absurd (omega arith)) (λ h. absurd (omega arith)))
+    bare_sum c m l b = omega (arith, vertical_zero pos c m l b, low_zero (count p) (only_in s c (cell after 1 m)) (only_in q c (cell after 0 m)) (λ h. absurd (omega arith)) (λ h. absurd (omega arith)))
 
     bare_residue : (d : TrackSet) (m : ℕ) → m < 64 * (start + 1) → m < track_length (shape z) → residue (shape z) end p D W (cell after 0) (cell after 1) d m ≡ 0
     bare_residue d m l b = residue_left (shape z) end p D W (cell after 0) (cell after 1) d none m ∙ left_zero pos d m l b

@@ -7,16 +7,16 @@ use native.Mathlib.Decide.{dec_le, dec_lt}
 use native.Mathlib.Omega.{arith}
 use lib.ListN.{get_or}
 use lib.Bits.{bit_xor}
-use Rattle.code.specs.Record.{TrackSet, A, B, Shape, data_tracks, lag, track_length, back}
+use Rattle.code.specs.declared.sizes.TrackSet.{TrackSet}
+use Rattle.code.specs.declared.sizes.TrackSet.TheVariants.{A, B}
+use Rattle.code.specs.Record.{row_of, Shape, data_tracks, lag, track_length, back}
 use Rattle.code.proofs.OneTrack.{offset, offset_vertical}
 use Rattle.code.proofs.Sums.{back_at, back_early, back_same, back_zero, back_back}
 use Rattle.words.specs.Words.{Window, First}
 use Rattle.words.proofs.Bit.{bit_lt, bit_zero}
-use Rattle.solver.proofs.Sets.{own_row}
 use Rattle.forms.specs.Streams.{Stream, cut}
 use Rattle.forms.specs.Forms.{left, met}
 use Rattle.forms.proofs.Shifts.{cut_in, cut_out}
-use Rattle.syndrome.specs.Syndrome.{set_of}
 use Rattle.plans.specs.declared.Form.{Form}
 use Rattle.plans.specs.Plans.{pivot}
 use Rattle.errors.specs.Rows.{cell, diagonals, verticals, Shown, Late, Charged, Delay}
@@ -63,12 +63,6 @@ shown_later n f at w c g p = record {
   cells = λ k l h. shown_back n f (at - c) w p k (at + k) (c + 64) l (omega arith) (omega arith) ∙ ap (λ v. v % 2) (sym (back_back f (at + k) c 64));
 }
 
--- Cells that are so far back are there.
-pub delay_room : (sh : Shape) (d s : TrackSet) (t r at : ℕ) → Delay sh d s t r → lag sh ≤ at → r < 64 → r ≤ at
-delay_room sh d s t r at p a h = by_cases (dec_le t (data_tracks sh s))
-    (λ l. omega (arith, p.small l))
-    (λ l. absurd (omega (arith, p.far (omega arith))))
-
 -- What is read at a track's delay is charged to the diagonal.
 pub charged_at : (ws : List ℕ) (sh : Shape) (row end : ℕ) (d s : TrackSet) (t at r w : ℕ) → lag sh < 64 → track_length sh ≤ 2112 →
     Delay sh d s t r → Late ws row at r end w → Charged sh end d s t (cell ws row) at w
@@ -77,13 +71,17 @@ charged_at ws sh row end d s t at r w a b p q = by_cases (dec_le t (data_tracks 
     (λ l. subst (λ v. Charged sh end d s t (cell ws row) at v) (sym (q.far (omega (arith, p.far (omega arith)))))
     (shown_none (track_length sh) _ at (λ m g h. back_early _ m _ (omega (arith, offset_vertical sh d s t (omega arith))))))
 
+-- The same of a track by another name.
+pub charged_as : (sh : Shape) (end : ℕ) (d : TrackSet) (f : Stream) (at w : ℕ) (s r : TrackSet) (t u : ℕ) → s ≡ r → t ≡ u →
+    Charged sh end d s t f at w → Charged sh end d r u f at w
+charged_as sh end d f at w s r t u e k h = rw (← e, ← k) h
+
 -- What is left of the diagonal of set d.
-pub left_at : (rows : List ℕ) (sh : Shape) (end : ℕ) (p : Form) (d at x y z : ℕ) → d < 2 → Shown (track_length sh) (cell rows d) at x →
-    Charged sh end (set_of d) A (pivot p A) (cell rows 2) at y → Charged sh end (set_of d) B (pivot p B) (cell rows 3) at z →
-    Shown (track_length sh) (left sh end (diagonals rows) (verticals rows) p (set_of d)) at (bit_xor (bit_xor x y) z)
+pub left_at : (rows : List ℕ) (sh : Shape) (end : ℕ) (p : Form) (d : TrackSet) (at x y z : ℕ) → Shown (track_length sh) (cell rows (row_of d)) at x →
+    Charged sh end d A (pivot p A) (cell rows 2) at y → Charged sh end d B (pivot p B) (cell rows 3) at z →
+    Shown (track_length sh) (left sh end (diagonals rows) (verticals rows) p d) at (bit_xor (bit_xor x y) z)
 unfolding left
-left_at rows sh end p d at x y z h f g e =
-    shown_xor _ _ _ at _ _ (shown_xor _ _ _ at _ _ (subst (λ r. Shown (track_length sh) (cell rows r) at x) (sym (own_row d h)) f) g) e
+left_at rows sh end p d at x y z f g e = shown_xor _ _ _ at _ _ (shown_xor _ _ _ at _ _ f g) e
 
 -- What the diagonal of set d meets of a pair.
 pub met_at : (found : List ℕ) (sh : Shape) (end row : ℕ) (d s : TrackSet) (t j at r x y : ℕ) → r ≤ at → r ≡ offset sh d s t →

@@ -1,19 +1,19 @@
 -- All words, one after the other.
-use mathlib.Core.Path.{◌≡◌, refl, sym, ap, ◌∙◌}
+use mathlib.Core.Path.{◌≡◌, refl, ap, ◌∙◌}
 use mathlib.Core.Logic.{◌≢◌, by_cases}
-use mathlib.Core.Bool.{Bool, true, false, true≢false}
 use mathlib.Core.List.{List}
 use Prim.Native.Nat.{ℕ, ◌+◌, ◌*◌, ◌-◌, ◌<◌, ◌≤◌}
 use native.Mathlib.Decide.{dec_lt, ℕ_discrete}
 use native.Mathlib.Omega.{arith}
-use Rattle.code.specs.Record.{TrackSet, A, B, track_length}
-use Rattle.code.specs.Sizes.{shape}
-use Rattle.code.specs.declared.Sizes.{Sizes}
-use Rattle.syndrome.specs.Syndrome.{row_of}
+use Rattle.code.specs.declared.sizes.TrackSet.{TrackSet}
+use Rattle.code.specs.declared.sizes.TrackSet.TheVariants.{A, B}
+use Rattle.code.specs.declared.sizes.Sizes.{Sizes}
+use Rattle.code.specs.Record.{row_of}
 use Rattle.plans.specs.declared.Form.{Form}
+use Rattle.plans.specs.Plans.{count}
 use Rattle.words.proofs.Bit.{bit_zero}
 use Rattle.errors.specs.Rows.{cell, Put}
-use Rattle.errors.specs.Steps.{ComputedIn, TestedIn, PivotsIn, Given, Later, Stepped, Quiet, Fresh, Begun, Found}
+use Rattle.errors.specs.Steps.{ComputedIn, TestedIn, PivotsIn, Given, Later, Quiet, Fresh, Begun}
 use Rattle.errors.proofs.Words.{put_later, later_both}
 use Rattle.errors.proofs.Lows.{computed_none}
 use Rattle.errors.proofs.Beginning.{start_computed, start_tested, start_pivots, bare_tested, bare_pivots}
@@ -30,43 +30,6 @@ pub record Finding (z : Sizes) (end : ℕ) (p : Form) (rows found : List ℕ) (s
 -- Words past the start are put.
 fresh_later : (start i : ℕ) (before after : List ℕ) → start ≤ i → Later i before after → Fresh before start → Fresh after start
 fresh_later start i before after h w f = record { rows = w.rows; zero = λ r m l k. w.early r m l (omega arith) ∙ f.zero r m l k }
-
-module _ (z : Sizes) (end : ℕ) (p : Form) (rows before : List ℕ) (start i : ℕ) (f : Finding z end p rows before start i) (after : List ℕ) (r : Bool) (w : Stepped z end p rows before i after r) where
-  pub find_more : r ≡ true → i < 33 → Finding z end p rows after start (i + 1)
-  find_more h l = record {
-    order = omega (arith, f.order);
-    within = omega arith;
-    fresh = fresh_later start i before after f.order w.later f.fresh;
-    computed = w.computed;
-    tested = w.tested h;
-    pivots = w.pivots h;
-  }
-
-  pub find_failed : r ≡ false → Fresh after start × Found z end p rows after false
-  find_failed h = (
-    fresh_later start i before after f.order w.later f.fresh,
-    record {
-      upto = 64 * (i + 1);
-      computed = w.computed;
-      all = λ e. absurd (true≢false (sym e));
-      tested = λ e. absurd (true≢false (sym e));
-      pivots = λ e. absurd (true≢false (sym e));
-      failed = λ e. w.failed h;
-    },
-  )
-
-pub find_all : (z : Sizes) (end : ℕ) (p : Form) (rows found : List ℕ) (start i : ℕ) → Finding z end p rows found start i → track_length (shape z) ≤ 64 * i → Fresh found start × Found z end p rows found true
-find_all z end p rows found start i f h = (
-  f.fresh,
-  record {
-    upto = 64 * i;
-    computed = f.computed;
-    all = λ e. h;
-    tested = λ e. f.tested;
-    pivots = λ e. f.pivots;
-    failed = λ e. absurd (true≢false e);
-  },
-)
 
 -- ## The word to begin with
 
@@ -108,7 +71,7 @@ module _ (z : Sizes) (end : ℕ) (p : Form) (rows found : List ℕ) (given : Giv
   }
 
   -- For pivots alone also before the word to begin with.
-  pub begin_finding : p.below ≡ 0 → (after : List ℕ) (r : ℕ) → Begun start found after r → Finding z end p rows after start r
+  pub begin_finding : count p ≡ 0 → (after : List ℕ) (r : ℕ) → Begun start found after r → Finding z end p rows after start r
   begin_finding none after r w = by_cases (ℕ_discrete r start) at_start a_word_later
     where
       at_start : r ≡ start → Finding z end p rows after start r

@@ -6,12 +6,13 @@ use mathlib.Core.List.{List}
 use Prim.Native.Nat.{ℕ, ◌+◌, ◌*◌, ◌<◌, ◌≤◌, ◌%◌}
 use native.Mathlib.Decide.{dec_lt}
 use native.Mathlib.Omega.{arith}
-use Rattle.code.specs.Record.{TrackSet, A, B, track_length}
+use Rattle.code.specs.declared.sizes.TrackSet.{TrackSet}
+use Rattle.code.specs.declared.sizes.TrackSet.TheVariants.{A, B}
+use Rattle.code.specs.Record.{track_length, row_of}
 use Rattle.code.specs.Sizes.{shape}
-use Rattle.code.specs.declared.Sizes.{Sizes}
-use Rattle.syndrome.specs.Syndrome.{set_of, row_of}
+use Rattle.code.specs.declared.sizes.Sizes.{Sizes}
 use Rattle.plans.specs.declared.Form.{Form}
-use Rattle.plans.specs.Plans.{room}
+use Rattle.plans.specs.Plans.{room, count, v_of, u_of}
 use Rattle.forms.specs.Streams.{Stream, cut}
 use Rattle.forms.specs.Found.{only_in, residue, pivot_sum}
 use Rattle.forms.proofs.Shifts.{cut_at}
@@ -32,8 +33,8 @@ module _ (z : Sizes) (end : ℕ) (p : Form) (rows : List ℕ) (i : ℕ) where
   -- The verticals take no errors past the position.
   sums_early : (x y : List ℕ) → Later i x y → (c : TrackSet) (m : ℕ) → m < 64 * i → sums y c m ≡ sums x c m
   unfolding pivot_sum
-  sums_early x y l c m h = ap (λ v. verticals rows c m + v) (low_same p.below _ _ _ _
-      (λ b. ap (only_in (set_of p.s) c) (l.early 1 m (omega arith) h)) (λ b. ap (only_in (set_of p.q) c) (l.early 0 m (omega arith) h)))
+  sums_early x y l c m h = ap (λ v. verticals rows c m + v) (low_same (count p) _ _ _ _
+      (λ b. ap (only_in (v_of p).s c) (l.early 1 m (omega arith) h)) (λ b. ap (only_in (u_of p).s c) (l.early 0 m (omega arith) h)))
 
   -- A pivot's word changes no error below the pivots.
   kept_computed : (c : TrackSet) (mid after : List ℕ) (r : Bool) (n : ℕ) → PivotPut z end p rows mid c i after r → ComputedIn z end p rows mid n → ComputedIn z end p rows after n

@@ -7,13 +7,12 @@ use native.Mathlib.Decide.{dec_lt, ℕ_discrete}
 use native.Mathlib.Omega.{arith}
 use lib.ListN.{get_or}
 use Rattle.code.specs.Record.{back}
-use Rattle.code.specs.declared.Sizes.{Sizes}
 use Rattle.code.proofs.Sums.{back_at, back_early, back_same}
 use Rattle.words.specs.Words.{bit, Fed}
 use Rattle.words.proofs.Bit.{cell_in}
-use Rattle.plans.specs.declared.Form.{Form}
 use Rattle.forms.specs.Streams.{Stream}
 use Rattle.forms.proofs.Shifts.{back_move}
+use Rattle.errors.specs.declared.work.Work.{Work}
 use Rattle.errors.specs.Rows.{cell, Rows, Shown, Put, Next}
 use Rattle.errors.specs.Steps.{Given, Later}
 use Rattle.errors.proofs.Charging.{shown_row}
@@ -107,6 +106,6 @@ later_same i x five = record { rows = five; early = λ r m a b. refl }
 pub later_both : (i : ℕ) (x y w : List ℕ) → Later i x y → Later i y w → Later i x w
 later_both i x y w p q = record { rows = q.rows; early = λ r m l h. q.early r m l h ∙ p.early r m l h }
 
--- Rows of errors that are still rows.
-pub kept_given : (z : Sizes) (end : ℕ) (p : Form) (rows before after : List ℕ) → Given z end p rows before → Rows 5 after → Given z end p rows after
-kept_given z end p rows before after g r = record { small = g.small; end_data = g.end_data; end_small = g.end_small; sized = g.sized; sums = g.sums; errors = r }
+-- What is known of the work and of rows of errors.
+pub given : (w : Work) (found : List ℕ) → Rows 5 found → Given w.z w.end w.form w.rows.now found
+given w found five = record { end_data = w.end_data; end_small = w.end_small; sized = w.sized; sums = w.sums; errors = five }

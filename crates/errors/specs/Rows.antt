@@ -1,8 +1,8 @@
 -- Rows of cells in one list of words: 34 words a row, of which the first is 0, and a last one after all rows.
 use Rattle.std.specs.Prelude.{◌≡◌, ◌≢◌, List, ℕ, ◌+◌, ◌*◌, ◌<◌, ◌≤◌, ◌%◌, length, get_or}
-use Rattle.code.specs.Record.{TrackSet, Shape, data_tracks, lag, track_length, back}
+use Rattle.code.specs.declared.sizes.TrackSet.{TrackSet}
+use Rattle.code.specs.Record.{row_of, Shape, data_tracks, lag, track_length, back}
 use Rattle.code.proofs.OneTrack.{offset}
-use Rattle.syndrome.specs.Syndrome.{row_of}
 use Rattle.words.specs.Words.{bit, bit_at}
 use Rattle.forms.specs.Streams.{Stream, cut}
 

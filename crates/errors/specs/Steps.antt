@@ -1,11 +1,11 @@
 -- The errors of a form's tracks, word by word.
 use Rattle.std.specs.Prelude.{◌≡◌, ◌≢◌, Bool, true, false, List, ℕ, ◌+◌, ◌*◌, ◌-◌, ◌<◌, ◌≤◌, ◌%◌}
-use Rattle.code.specs.Record.{TrackSet, track_length, back}
-use Rattle.code.specs.Sizes.{shape, Small}
-use Rattle.code.specs.declared.Sizes.{Sizes}
-use Rattle.syndrome.specs.Syndrome.{set_of, row_of}
+use Rattle.code.specs.declared.sizes.TrackSet.{TrackSet}
+use Rattle.code.specs.Record.{row_of, track_length, back}
+use Rattle.code.specs.Sizes.{shape}
+use Rattle.code.specs.declared.sizes.Sizes.{Sizes}
 use Rattle.plans.specs.declared.Form.{Form}
-use Rattle.plans.specs.Plans.{pivot, room, Sized}
+use Rattle.plans.specs.Plans.{pivot, room, count, v_of, u_of, Sized}
 use Rattle.words.specs.Words.{bit}
 use Rattle.forms.specs.Streams.{Stream, cut}
 use Rattle.forms.specs.Forms.{left, gap}
@@ -27,7 +27,6 @@ PivotsIn z end p rows found n = (c : TrackSet) (m : ℕ) → m < n →
 
 -- Rows of sums and rows of errors of a record, and a form.
 pub record Given (z : Sizes) (end : ℕ) (p : Form) (rows found : List ℕ) : Type 0 where
-  pub small : Small z
   pub end_data : z.positions ≤ end
   pub end_small : end ≤ track_length (shape z)
   pub sized : Sized (shape z) p
@@ -39,18 +38,18 @@ pub record Given (z : Sizes) (end : ℕ) (p : Form) (rows found : List ℕ) : Ty
 -- The word of u's pair, with v's eliminated.
 abbrev pub PairWord : Sizes → ℕ → Form → List ℕ → List ℕ → ℕ → ℕ → Type 0
 PairWord z end p rows found i x =
-    Next (eliminated_row (shape z) end p (diagonals rows) (verticals rows)) (cell found 4) (stride (shape z) end p) 64 i (extent (shape z) end p.u) x
+    Next (eliminated_row (shape z) end p (diagonals rows) (verticals rows)) (cell found 4) (stride (shape z) end p) 64 i (extent (shape z) end (u_of p).t) x
 
 -- The word of u's error, from that of its pair.
 abbrev pub UpperWord : Sizes → Form → List ℕ → ℕ → ℕ → ℕ → Type 0
 UpperWord z p found i pair x = (R : Stream) → ((k : ℕ) → k < 64 → R (64 * i + k) % 2 ≡ bit pair k) →
-    Next R (cell found 0) (gap (shape z) (set_of p.q) p.u (pivot p (set_of p.q))) 64 i (track_length (shape z)) x
+    Next R (cell found 0) (gap (shape z) (u_of p).s (u_of p).t (pivot p (u_of p).s)) 64 i (track_length (shape z)) x
 
 -- The word of v's error.
 abbrev pub LowerWord : Sizes → ℕ → Form → List ℕ → List ℕ → ℕ → ℕ → Type 0
 LowerWord z end p rows found i x =
     Next (lower_row (shape z) end p (diagonals rows) (verticals rows) (cell found 0)) (cut end (cell found 1))
-    (gap (shape z) (set_of p.s) p.v (pivot p (set_of p.s))) (end - 64 * i) i (extent (shape z) (track_length (shape z)) p.v) x
+    (gap (shape z) (v_of p).s (v_of p).t (pivot p (v_of p).s)) (end - 64 * i) i (extent (shape z) (track_length (shape z)) (v_of p).t) x
 
 -- Only the words from i on of these rows were changed.
 pub record Later (i : ℕ) (before after : List ℕ) : Type 0 where
@@ -61,29 +60,29 @@ pub record Later (i : ℕ) (before after : List ℕ) : Type 0 where
 pub record UpperPut (z : Sizes) (end : ℕ) (p : Form) (rows before : List ℕ) (i : ℕ) (after : List ℕ) : Type 0 where
   pub later : Later i before after
   pub lower_stays : cell after 1 ≡ cell before 1
-  pub pair : (m : ℕ) → m < 64 * (i + 1) → m < extent (shape z) end p.u →
+  pub pair : (m : ℕ) → m < 64 * (i + 1) → m < extent (shape z) end (u_of p).t →
       cell after 4 m ≡ (eliminated_row (shape z) end p (diagonals rows) (verticals rows) m + back (cell after 4) m (stride (shape z) end p)) % 2
-  pub upper : (m : ℕ) → m < 64 * (i + 1) → m < extent (shape z) end p.u →
-      cell after 0 m ≡ (cell after 4 m + back (cell after 0) m (gap (shape z) (set_of p.q) p.u (pivot p (set_of p.q)))) % 2
-  pub upper_end : (m : ℕ) → 64 * i ≤ m → m < 64 * (i + 1) → extent (shape z) end p.u ≤ m → cell after 0 m ≡ 0
+  pub upper : (m : ℕ) → m < 64 * (i + 1) → m < extent (shape z) end (u_of p).t →
+      cell after 0 m ≡ (cell after 4 m + back (cell after 0) m (gap (shape z) (u_of p).s (u_of p).t (pivot p (u_of p).s))) % 2
+  pub upper_end : (m : ℕ) → 64 * i ≤ m → m < 64 * (i + 1) → extent (shape z) end (u_of p).t ≤ m → cell after 0 m ≡ 0
 
 -- Word i of v's error is put.
 pub record LowerPut (z : Sizes) (end : ℕ) (p : Form) (rows before : List ℕ) (i : ℕ) (after : List ℕ) : Type 0 where
   pub later : Later i before after
   pub upper_stays : cell after 0 ≡ cell before 0
   pub pair_stays : cell after 4 ≡ cell before 4
-  pub lower : (m : ℕ) → 64 * i ≤ m → m < 64 * (i + 1) → m < extent (shape z) (track_length (shape z)) p.v →
+  pub lower : (m : ℕ) → 64 * i ≤ m → m < 64 * (i + 1) → m < extent (shape z) (track_length (shape z)) (v_of p).t →
       cell after 1 m ≡ (lower_row (shape z) end p (diagonals rows) (verticals rows) (cell after 0) m
-      + back (cut end (cell after 1)) m (gap (shape z) (set_of p.s) p.v (pivot p (set_of p.s)))) % 2
-  pub lower_end : (m : ℕ) → 64 * i ≤ m → m < 64 * (i + 1) → extent (shape z) (track_length (shape z)) p.v ≤ m → cell after 1 m ≡ 0
+      + back (cut end (cell after 1)) m (gap (shape z) (v_of p).s (v_of p).t (pivot p (v_of p).s))) % 2
+  pub lower_end : (m : ℕ) → 64 * i ≤ m → m < 64 * (i + 1) → extent (shape z) (track_length (shape z)) (v_of p).t ≤ m → cell after 1 m ≡ 0
 
 -- Word i of u's tail is put: of track 0 the cells past `end`, which were 0.
 pub record TailPut (z : Sizes) (end : ℕ) (p : Form) (rows before : List ℕ) (i : ℕ) (after : List ℕ) : Type 0 where
   pub later : Later i before after
   pub others : (r : ℕ) → r < 5 → r ≢ 0 → cell after r ≡ cell before r
-  pub same : (m : ℕ) → m < extent (shape z) end p.u → cell after 0 m ≡ cell before 0 m
-  pub tail : (m : ℕ) → 64 * i ≤ m → m < 64 * (i + 1) → m < track_length (shape z) → extent (shape z) end p.u ≤ m →
-      cell after 0 m ≡ at_zero p.u (residue (shape z) end p (diagonals rows) (verticals rows) (cut end (cell after 0)) (cell after 1) (set_of p.q) m % 2)
+  pub same : (m : ℕ) → m < extent (shape z) end (u_of p).t → cell after 0 m ≡ cell before 0 m
+  pub tail : (m : ℕ) → 64 * i ≤ m → m < 64 * (i + 1) → m < track_length (shape z) → extent (shape z) end (u_of p).t ≤ m →
+      cell after 0 m ≡ at_zero (u_of p).t (residue (shape z) end p (diagonals rows) (verticals rows) (cut end (cell after 0)) (cell after 1) (u_of p).s m % 2)
 
 -- Word i of the errors below the pivots is put.
 pub record Extended (z : Sizes) (end : ℕ) (p : Form) (rows before : List ℕ) (i : ℕ) (after : List ℕ) : Type 0 where
@@ -106,9 +105,9 @@ pub record PivotPut (z : Sizes) (end : ℕ) (p : Form) (rows before : List ℕ) 
       pivot_sum (shape z) end p (diagonals rows) (verticals rows) (cell before 0) (cell before 1) c m % 2 ≡ 0) → ⊥
 
 -- r is true in words of the data past the first alone, where there is a track below the pivots, and for both diagonals where there are two.
-pub record ImpliedTold (z : Sizes) (p : Form) (d i : ℕ) (r : Bool) : Type 0 where
-  pub below : r ≡ true → 1 ≤ p.below
-  pub two : r ≡ true → d ≢ p.s → 2 ≤ p.below
+pub record ImpliedTold (z : Sizes) (p : Form) (d : TrackSet) (i : ℕ) (r : Bool) : Type 0 where
+  pub below : r ≡ true → 1 ≤ count p
+  pub two : r ≡ true → d ≢ (v_of p).s → 2 ≤ count p
   pub past : r ≡ true → 1 ≤ i
   pub in_data : r ≡ true → 64 * (i + 1) ≤ z.positions
 

@@ -1,11 +1,6 @@
 -- What the functions below the reader of a file do.
-use Rattle.std.specs.Prelude.{◌≡◌, Bool, true, false, List, ℕ, ◌<◌, ◌≤◌, length}
-use Rattle.code.specs.Numbers.{Decides}
+use Rattle.std.specs.Prelude.{◌≡◌, List, ℕ, ◌<◌, ◌≤◌, length}
 use Rattle.code.specs.Files.{Entry, entry_count, directory_size, entry_offset, entry_end, entry_at, Cartridge}
-
--- Whether something holds.
-abbrev pub Told : Type 0 → Bool → Type 0
-Told P r = Decides P (r ≡ true) (r ≡ false)
 
 -- Entry i follows the rules, where the directory and the entries before it end at `from`.
 pub record EntryRight (file : List ℕ) (from i : ℕ) : Type 0 where
@@ -13,9 +8,10 @@ pub record EntryRight (file : List ℕ) (from i : ℕ) : Type 0 where
   pub within : entry_end file i ≤ length file
   pub entry : Entry (entry_at file i)
 
--- Where it does, its end, and 0 otherwise.
-abbrev pub EntryTested : List ℕ → ℕ → ℕ → ℕ → Type 0
-EntryTested file from i r = Decides (EntryRight file from i) (r ≡ entry_end file i) (r ≡ 0)
+-- It does, and ends here.
+pub record IsEnd (file : List ℕ) (from i end : ℕ) : Type 0 where
+  pub right : EntryRight file from i
+  pub ends : end ≡ entry_end file i
 
 -- The first i entries follow the rules, and they and the directory end at `end` or before. Where all entries do, the next begins there
 -- or later.

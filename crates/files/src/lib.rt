@@ -1,22 +1,22 @@
 // Cartridge files: numbers in bytes, the rules of a file, its number of entries and an entry of it.
 #![tactic(auto)]
 
-ghost use Rattle.std.specs.Prelude.{◌≡◌, ◌+◌, ◌*◌, ◌≤◌, length};
-ghost use Rattle.code.specs.Files.{number, Entry, Cartridge};
-ghost use Rattle.code.specs.Calls.{no_stretch};
+ghost use Rattle.std.specs.Prelude.{◌≡◌, ◌+◌, ◌*◌, ◌≤◌, length, Decides, MatchOption};
+ghost use Rattle.code.specs.Files.{number, entry_blocks, entry_size, Entry, directory_size, entry_offset, entry_length, Cartridge};
+ghost use Rattle.code.specs.Answers.{counted_of, stretch_of};
 ghost use Rattle.code.specs.Promises.{EntryFound, EntryShown, FileCounted};
-ghost use Rattle.files.specs.Steps.{Told, EntryTested};
+ghost use Rattle.files.specs.Steps.{IsEnd, EntryRight};
 
-use code::{Counted, Stretch};
+use code::{Refusal, Span};
 
 // ---- Numbers
 
 // The two-byte number at a place, most significant byte first.
-pub fn two(bytes: &[u8], at: usize) -> u32
+pub fn two(bytes: &[u8], at: usize) -> u16
     requires { at + 2 ≤ length bytes.now }
     ensures { result ≡ number 2 bytes.now at }
 {
-    bytes[at] as u32 * 256 + bytes[at + 1] as u32
+    u16::from_be_bytes([bytes[at], bytes[at + 1]])
 }
 
 // The four-byte number at a place.
@@ -24,75 +24,78 @@ pub fn four(bytes: &[u8], at: usize) -> u32
     requires { at + 4 ≤ length bytes.now }
     ensures { result ≡ number 4 bytes.now at }
 {
-    two(bytes, at) * 65536 + two(bytes, at + 2)
+    u32::from_be_bytes([bytes[at], bytes[at + 1], bytes[at + 2], bytes[at + 3]])
+}
+
+// ---- Entries
+
+// The size of the directory of so many entries, the number of entries before it.
+pub fn directory_size(count: u32) -> usize
+    ensures { result ≡ directory_size count }
+{
+    2 + 8 * count as usize
+}
+
+// The size of the entry with which these bytes begin, by its block count.
+pub fn entry_size(bytes: &[u8]) -> usize
+    requires { 6 ≤ length bytes.now }
+    ensures { result ≡ entry_size (entry_blocks bytes.now) }
+{
+    6 + 18 * (usize::from(two(bytes, 4)) + 2)
+}
+
+// Are these bytes an entry, by count and length?
+fn is_entry(bytes: &[u8]) -> bool
+    ensures { Decides result (Entry bytes.now) }
+{
+    6 <= bytes.len() && two(bytes, 4) <= 256 && bytes.len() == entry_size(bytes)
+}
+
+// Entry i's place in the file, by the directory.
+fn place(file: &[u8], i: usize) -> Span
+    requires { 10 + 8 * i ≤ length file.now }
+    ensures { result ≡ record { offset = entry_offset file.now i; length = entry_length file.now i } }
+{
+    let at = 2 + 8 * i;
+    Span {
+        offset: four(file, at),
+        length: four(file, at + 4),
+    }
+}
+
+// Where entry i ends, and none where it breaks a rule. The directory and the entries before it end at `from`.
+fn entry_end(file: &[u8], from: usize, i: usize) -> Option<usize>
+    requires { 10 + 8 * i ≤ length file.now }
+    ensures { MatchOption result (¬ EntryRight file.now from i) (IsEnd file.now from i) }
+{
+    let place = place(file, i);
+    let offset = place.offset as usize;
+    let end = offset + place.length as usize;
+    let right = from <= offset && end <= file.len() && is_entry(&file[offset..end]);
+    right.then_some(end)
 }
 
 // ---- The rules
 
-// Are these bytes an entry, by count and length?
-fn is_entry(bytes: &[u8]) -> bool
-    ensures { Told (Entry bytes.now) result }
-{
-    let size = bytes.len();
-    if size < 6 {
-        return false;
-    }
-    let n = two(bytes, 4) as usize;
-    if 256 < n {
-        return false;
-    }
-    if size != 6 + 18 * (n + 2) {
-        return false;
-    }
-    true
-}
-
-// Where entry i ends, and 0 where it breaks a rule. The directory and the entries before it end at `from`.
-fn entry_end(file: &[u8], from: usize, i: usize) -> usize
-    requires { 10 + 8 * i ≤ length file.now }
-    ensures { EntryTested file.now from i result }
-{
-    let offset = four(file, 2 + 8 * i) as usize;
-    let end = offset + four(file, 6 + 8 * i) as usize;
-    if offset < from {
-        return 0;
-    }
-    if file.len() < end {
-        return 0;
-    }
-    if !is_entry(&file[offset..end]) {
-        return 0;
-    }
-    end
-}
-
 // Does a file follow the rules?
 pub fn is_right(file: &[u8]) -> bool
-    ensures { Told (Cartridge file.now) result }
+    ensures { Decides result (Cartridge file.now) }
 {
     let size = file.len();
-    if 65536 < size {
+    if size < 2 || 65536 < size {
         return false;
     }
-    if size < 2 {
-        return false;
-    }
-    let count = two(file, 0) as usize;
-    if 64 < count {
-        return false;
-    }
-    let directory = 2 + 8 * count;
-    if size < directory {
+    let count = u32::from(two(file, 0));
+    let directory = directory_size(count);
+    if 64 < count || size < directory {
         return false;
     }
     let mut end = directory;
-    let mut i = 0;
-    while i < count {
-        end = entry_end(file, end, i);
-        if end == 0 {
+    for i in 0..count as usize {
+        let Some(next) = entry_end(file, end, i) else {
             return false;
-        }
-        i += 1;
+        };
+        end = next;
     }
     true
 }
@@ -100,56 +103,35 @@ pub fn is_right(file: &[u8]) -> bool
 // ---- The calls
 
 // The number of a file's entries.
-pub fn count(file: &[u8]) -> Counted
-    ensures { FileCounted file.now result }
+pub fn count(file: &[u8]) -> Result<u32, Refusal>
+    ensures { FileCounted file.now (counted_of result) }
 {
     if !is_right(file) {
-        return Counted {
-            answer: 10,
-            entries: 0,
-        };
+        return Err(Refusal::File);
     }
-    Counted {
-        answer: 0,
-        entries: two(file, 0),
-    }
+    Ok(u32::from(two(file, 0)))
 }
 
-// An answer with an empty stretch.
-fn nothing(number: u32) -> Stretch
-    ensures { result ≡ no_stretch number }
+// Entry i of a file, as a stretch of it: an empty one where the file has no entry i.
+pub fn find(file: &[u8], index: u32) -> Result<Span, Refusal>
+    ensures { EntryFound file.now index (stretch_of result) }
 {
-    Stretch {
-        answer: number,
-        offset: 0,
-        length: 0,
+    if count(file)? <= index {
+        return Ok(Span {
+            offset: 0,
+            length: 0,
+        });
     }
-}
-
-// Entry i of a file, as a stretch of it.
-pub fn find(file: &[u8], index: u32) -> Stretch
-    ensures { EntryFound file.now index result }
-{
-    let counted = count(file);
-    if counted.answer != 0 {
-        return nothing(10);
-    }
-    if counted.entries <= index {
-        return nothing(0);
-    }
-    let at = 2 + 8 * index as usize;
-    Stretch {
-        answer: 0,
-        offset: four(file, at),
-        length: four(file, at + 4),
-    }
+    Ok(place(file, index as usize))
 }
 
 // Entry i of the caller's own file, or an empty part.
 pub fn entry(file: &[u8], index: u32) -> &[u8]
     ensures { EntryShown file.now index result.now }
 {
-    let found = find(file, index);
+    let Ok(found) = find(file, index) else {
+        return &file[..0];
+    };
     let start = found.offset as usize;
     let end = start + found.length as usize;
     &file[start..end]

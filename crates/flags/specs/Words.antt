@@ -1,6 +1,7 @@
 -- Flags by position: a word a position, whose bit g flags the cell of track number g.
 use Rattle.std.specs.Prelude.{◌≡◌, ◌≢◌, Bool, List, ℕ, ◌/◌, ◌%◌, ◌^◌, ◌<◌, eqb, length, get_or}
-use Rattle.code.specs.Record.{TrackSet, Shape, tracks, track_length}
+use Rattle.code.specs.declared.sizes.TrackSet.{TrackSet}
+use Rattle.code.specs.Record.{Shape, tracks, track_length}
 use Rattle.code.specs.Flags.{CellFlags, word_flags, in_window}
 use Rattle.code.specs.Reach.{flags_code}
 use Rattle.code.specs.Spans.{window}

@@ -4,7 +4,9 @@ use mathlib.Core.List.{List, [], ◌∷◌}
 use Prim.Native.Nat.{ℕ, zero, suc, ◌+◌, ◌-◌, ◌<◌, ◌≤◌, ◌%◌}
 use native.Mathlib.Decide.{ℕ_discrete}
 use native.Mathlib.Omega.{arith}
-use Rattle.code.specs.Record.{TrackSet, A, B, Shape, data_tracks, tracks, lag, track_length, vertical_end, tail_tracks, Cells, back, sum, diagonal, vertical, Good}
+use Rattle.code.specs.declared.sizes.TrackSet.{TrackSet}
+use Rattle.code.specs.declared.sizes.TrackSet.TheVariants.{A, B}
+use Rattle.code.specs.Record.{Shape, data_tracks, tracks, lag, track_length, vertical_end, tail_tracks, Cells, back, sum, diagonal, vertical, Good}
 use Rattle.code.proofs.Sums.{back_early, back_zero, sum_same, sum_zero}
 use Rattle.code.proofs.Cell.{vertical_within}
 use Rattle.code.proofs.Linear.{◌⊞◌, plus, diagonal_add, vertical_add, diagonal_mod, vertical_mod}

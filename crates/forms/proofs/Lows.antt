@@ -3,11 +3,12 @@ use mathlib.Core.Path.{◌≡◌, refl}
 use mathlib.Core.List.{List, [], ◌∷◌}
 use Prim.Native.Nat.{ℕ, zero, suc, ◌+◌, ◌<◌, ◌≤◌}
 use native.Mathlib.Omega.{arith}
-use Rattle.code.specs.Record.{TrackSet, A, B, Shape, tracks}
-use Rattle.syndrome.specs.Syndrome.{set_of}
+use Rattle.code.specs.declared.sizes.TrackSet.{TrackSet}
+use Rattle.code.specs.declared.sizes.TrackSet.TheVariants.{A, B}
+use Rattle.code.specs.Record.{Shape, tracks}
 use Rattle.plans.specs.declared.Form.{Form}
 use Rattle.plans.specs.Lists.{Falls}
-use Rattle.plans.specs.Plans.{pivot, of_set, join, lows_in, Sized}
+use Rattle.plans.specs.Plans.{pivot, of_set, join, lows_in, Sized, count, v_of, u_of}
 use Rattle.forms.specs.Flagged.{total}
 use Rattle.forms.specs.Forms.{Below}
 use Rattle.forms.specs.Found.{low_sum, only_in}
@@ -94,5 +95,5 @@ ordered sh j (suc (suc k)) B v A u o = record {
 ordered sh j (suc (suc k)) B v B u o = record { v_below = λ h. omega (arith, o B); u_below = λ h. omega (arith, o B); rising = λ h e. omega (arith, o B) }
 
 -- Those of a form.
-pub form_order : (sh : Shape) (p : Form) → Sized sh p → Ordered sh (pivot p) p.below (set_of p.s) p.v (set_of p.q) p.u
-form_order sh p sized = ordered sh (pivot p) p.below (set_of p.s) p.v (set_of p.q) p.u sized.order
+pub form_order : (sh : Shape) (p : Form) → Sized sh p → Ordered sh (pivot p) (count p) (v_of p).s (v_of p).t (u_of p).s (u_of p).t
+form_order sh p sized = ordered sh (pivot p) (count p) (v_of p).s (v_of p).t (u_of p).s (u_of p).t sized.order

@@ -5,35 +5,17 @@ use mathlib.Core.Bool.{true, false, true≢false}
 use Prim.Native.Nat.{ℕ, zero, suc, ◌+◌, ◌<◌, ◌≤◌, ◌%◌}
 use native.Mathlib.Decide.{dec_lt}
 use native.Mathlib.Omega.{arith}
-use Rattle.code.specs.Record.{
-  TrackSet,
-  A,
-  B,
-  Closing,
-  closed_tail,
-  open_tail,
-  Shape,
-  data_tracks,
-  tracks,
-  track_length,
-  vertical_end,
-  tail_tracks,
-  Cells,
-  back,
-  diagonal,
-  vertical,
-  Good,
-  blank,
-}
+use Rattle.code.specs.declared.sizes.TrackSet.{TrackSet}
+use Rattle.code.specs.declared.sizes.TrackSet.TheVariants.{A, B}
+use Rattle.code.specs.Record.{Closing, closed_tail, open_tail, Shape, data_tracks, tracks, track_length, vertical_end, tail_tracks, Cells, back, diagonal, vertical, Good, blank}
 use Rattle.code.specs.Flags.{TrackFlags, whole, AgreeOff}
 use Rattle.code.proofs.Sums.{back_same, back_zero, back_add, back_mod}
 use Rattle.code.proofs.Cell.{vertical_within}
 use Rattle.code.proofs.Closings.{closed_tracks}
 use Rattle.code.proofs.Linear.{◌⊞◌, plus, diagonal_add, vertical_add, good_bits}
 use Rattle.code.proofs.OneTrack.{put, put_off, put_zero, offset, diagonal_put, vertical_on, vertical_off}
-use Rattle.syndrome.specs.Syndrome.{set_of}
 use Rattle.plans.specs.declared.Form.{Form}
-use Rattle.plans.specs.Plans.{pivot, room, Room, no_pivot, data_pivot, zero_pivot, vertical_pivot, Fits}
+use Rattle.plans.specs.Plans.{pivot, room, Room, no_pivot, data_pivot, zero_pivot, vertical_pivot, Fits, count, v_of, u_of}
 use Rattle.forms.specs.Streams.{Stream, cut}
 use Rattle.forms.specs.Forms.{left, met}
 use Rattle.forms.specs.Found.{Sums, Tails, low_sum, only_in, residue, pivot_sum, Tested, errors}
@@ -85,21 +67,21 @@ only_sets B f = omega arith
 
 module _ (sh : Shape) (p : Form) (P : TrackSet → Stream) (U E : Stream) where
   abbrev s : TrackSet
-  s = set_of p.s
+  s = (v_of p).s
 
   abbrev q : TrackSet
-  q = set_of p.q
+  q = (u_of p).s
 
   -- The tracks below the pivots, and the pivots.
   abbrev low_errors : Cells
-  low_errors c t m = low_sum p.below (put s p.v E c t m) (put q p.u U c t m)
+  low_errors c t m = low_sum (count p) (put s (v_of p).t E c t m) (put q (u_of p).t U c t m)
 
   abbrev pivot_errors : Cells
   pivot_errors = put A (pivot p A) (P A) ⊞ put B (pivot p B) (P B)
 
   diagonal_errors : (d : TrackSet) (m : ℕ) → m < track_length sh → diagonal sh (errors p P U E) d m ≡
       back (P A) m (offset sh d A (pivot p A)) + back (P B) m (offset sh d B (pivot p B))
-      + low_sum p.below (back E m (offset sh d s p.v)) (back U m (offset sh d q p.u))
+      + low_sum (count p) (back E m (offset sh d s (v_of p).t)) (back U m (offset sh d q (u_of p).t))
   unfolding errors
   diagonal_errors d m b = omega (
     arith,
@@ -107,13 +89,13 @@ module _ (sh : Shape) (p : Form) (P : TrackSet → Stream) (U E : Stream) where
     diagonal_add sh (put A (pivot p A) (P A)) (put B (pivot p B) (P B)) d m,
     diagonal_put sh A (pivot p A) (P A) d m b,
     diagonal_put sh B (pivot p B) (P B) d m b,
-    diagonal_low sh p.below (put s p.v E) (put q p.u U) d m,
-    low_same p.below (diagonal sh (put s p.v E) d m) (diagonal sh (put q p.u U) d m) (back E m (offset sh d s p.v)) (back U m (offset sh d q p.u))
-        (λ h. diagonal_put sh s p.v E d m b) (λ h. diagonal_put sh q p.u U d m b),
+    diagonal_low sh (count p) (put s (v_of p).t E) (put q (u_of p).t U) d m,
+    low_same (count p) (diagonal sh (put s (v_of p).t E) d m) (diagonal sh (put q (u_of p).t U) d m) (back E m (offset sh d s (v_of p).t)) (back U m (offset sh d q (u_of p).t))
+        (λ h. diagonal_put sh s (v_of p).t E d m b) (λ h. diagonal_put sh q (u_of p).t U d m b),
   )
 
-  vertical_errors : ((c : TrackSet) → pivot p c < tracks sh c) → (1 ≤ p.below → p.v < tracks sh s) → (2 ≤ p.below → p.u < tracks sh q) →
-      (c : TrackSet) (m : ℕ) → vertical sh (errors p P U E) c m ≡ P c m + low_sum p.below (only_in s c (E m)) (only_in q c (U m))
+  vertical_errors : ((c : TrackSet) → pivot p c < tracks sh c) → (1 ≤ count p → (v_of p).t < tracks sh s) → (2 ≤ count p → (u_of p).t < tracks sh q) →
+      (c : TrackSet) (m : ℕ) → vertical sh (errors p P U E) c m ≡ P c m + low_sum (count p) (only_in s c (E m)) (only_in q c (U m))
   unfolding errors
   vertical_errors hp hv hu c m = omega (
     arith,
@@ -122,16 +104,16 @@ module _ (sh : Shape) (p : Form) (P : TrackSet → Stream) (U E : Stream) where
     vertical_only sh A (pivot p A) (P A) c m (hp A),
     vertical_only sh B (pivot p B) (P B) c m (hp B),
     only_sets c (λ d. P d m),
-    vertical_low sh p.below (put s p.v E) (put q p.u U) c m,
-    low_same p.below (vertical sh (put s p.v E) c m) (vertical sh (put q p.u U) c m) (only_in s c (E m)) (only_in q c (U m))
-        (λ h. vertical_only sh s p.v E c m (hv h)) (λ h. vertical_only sh q p.u U c m (hu h)),
+    vertical_low sh (count p) (put s (v_of p).t E) (put q (u_of p).t U) c m,
+    low_same (count p) (vertical sh (put s (v_of p).t E) c m) (vertical sh (put q (u_of p).t U) c m) (only_in s c (E m)) (only_in q c (U m))
+        (λ h. vertical_only sh s (v_of p).t E c m (hv h)) (λ h. vertical_only sh q (u_of p).t U c m (hu h)),
   )
 
   -- A cell is right if no track of the form is wrong there.
   errors_zero : (c : TrackSet) (t m : ℕ) → ((d : TrackSet) → put d (pivot p d) (P d) c t m ≡ 0) →
-      (1 ≤ p.below → put s p.v E c t m ≡ 0) → (2 ≤ p.below → put q p.u U c t m ≡ 0) → errors p P U E c t m ≡ 0
+      (1 ≤ count p → put s (v_of p).t E c t m ≡ 0) → (2 ≤ count p → put q (u_of p).t U c t m ≡ 0) → errors p P U E c t m ≡ 0
   unfolding errors
-  errors_zero c t m hp hv hu = omega (arith, hp A, hp B, low_zero p.below (put s p.v E c t m) (put q p.u U c t m) hv hu)
+  errors_zero c t m hp hv hu = omega (arith, hp A, hp B, low_zero (count p) (put s (v_of p).t E c t m) (put q (u_of p).t U c t m) hv hu)
 
 even_charged : (d a b l v w i j : ℕ) → a ≡ (v + i) % 2 → b ≡ (w + j) % 2 → (d + v + w + (l + (i + j))) % 2 ≡ 0 → (d + (a + b + l)) % 2 ≡ 0
 even_charged d a b l v w i j p q r = omega arith
@@ -146,7 +128,7 @@ module _ (sh : Shape) (f : TrackFlags) (p : Form) (D W P : TrackSet → Stream) 
   early = cut (vertical_end sh)
 
   abbrev charge : TrackSet → ℕ → ℕ → ℕ
-  charge c m o = low_sum p.below (only_in (set_of p.s) c (back (early E) m o)) (only_in (set_of p.q) c (back (early U) m o))
+  charge c m o = low_sum (count p) (only_in (v_of p).s c (back (early E) m o)) (only_in (u_of p).s c (back (early U) m o))
 
   -- A pivot is its vertical and the errors below it, all cut.
   pivot_cut : (c : TrackSet) (m : ℕ) → m < track_length sh → P c m ≡ pivot_sum sh (vertical_end sh) p D (λ d. early (W d)) (early U) (early E) c m % 2
@@ -154,7 +136,7 @@ module _ (sh : Shape) (f : TrackFlags) (p : Form) (D W P : TrackSet → Stream) 
   pivot_cut c m b = pivots_are c m b ∙ by_cases (dec_lt m (vertical_end sh))
       (λ h. simp (cut_in (vertical_end sh), h))
       (λ h. let l : vertical_end sh ≤ m = omega arith in simp (cut_out (vertical_end sh), l, only_zero)
-      (omega (arith, low_zero p.below 0 0 (λ k. refl) (λ k. refl))))
+      (omega (arith, low_zero (count p) 0 0 (λ k. refl) (λ k. refl))))
 
   -- A diagonal meets them with it.
   pivot_met : (c : TrackSet) (m o : ℕ) → m < track_length sh → back (P c) m o ≡ (back (early (W c)) m o + charge c m o) % 2
@@ -163,18 +145,18 @@ module _ (sh : Shape) (f : TrackFlags) (p : Form) (D W P : TrackSet → Stream) 
     arith,
     back_same (P c) (λ k. pivot_sum sh (vertical_end sh) p D (λ d. early (W d)) (early U) (early E) c k % 2) m o (λ k e. pivot_cut c k (omega arith)),
     back_mod (pivot_sum sh (vertical_end sh) p D (λ d. early (W d)) (early U) (early E) c) m o,
-    back_add (early (W c)) (λ k. low_sum p.below (only_in (set_of p.s) c (early E k)) (only_in (set_of p.q) c (early U k))) m o,
-    back_low p.below (λ k. only_in (set_of p.s) c (early E k)) (λ k. only_in (set_of p.q) c (early U k)) m o,
-    low_same p.below (back (λ k. only_in (set_of p.s) c (early E k)) m o) (back (λ k. only_in (set_of p.q) c (early U k)) m o)
-        (only_in (set_of p.s) c (back (early E) m o)) (only_in (set_of p.q) c (back (early U) m o))
-        (λ h. back_only (set_of p.s) c (early E) m o) (λ h. back_only (set_of p.q) c (early U) m o),
+    back_add (early (W c)) (λ k. low_sum (count p) (only_in (v_of p).s c (early E k)) (only_in (u_of p).s c (early U k))) m o,
+    back_low (count p) (λ k. only_in (v_of p).s c (early E k)) (λ k. only_in (u_of p).s c (early U k)) m o,
+    low_same (count p) (back (λ k. only_in (v_of p).s c (early E k)) m o) (back (λ k. only_in (u_of p).s c (early U k)) m o)
+        (only_in (v_of p).s c (back (early E) m o)) (only_in (u_of p).s c (back (early U) m o))
+        (λ h. back_only (v_of p).s c (early E) m o) (λ h. back_only (u_of p).s c (early U) m o),
   )
 
   -- A pivot is right from its room on.
   quiet : (c : TrackSet) (m : ℕ) → m < track_length sh → room p c ≤ m → P c m ≡ 0
   quiet c m b r = pivots_are c m b ∙ cut_zero (vertical_end sh) (λ k. pivot_sum sh (vertical_end sh) p D W U E c k % 2) m (λ l. tested.verticals c m b l r)
 
-  order : Ordered sh (pivot p) p.below (set_of p.s) p.v (set_of p.q) p.u
+  order : Ordered sh (pivot p) (count p) (v_of p).s (v_of p).t (u_of p).s (u_of p).t
   order = form_order sh p fits.sized
 
   in_set : (c : TrackSet) → pivot p c < tracks sh c
@@ -182,16 +164,16 @@ module _ (sh : Shape) (f : TrackFlags) (p : Form) (D W P : TrackSet → Stream) 
 
   residue_charged : (d : TrackSet) (m : ℕ) → residue sh (vertical_end sh) p D W U E d m ≡
       D d m + back (early (W A)) m (offset sh d A (pivot p A)) + back (early (W B)) m (offset sh d B (pivot p B))
-      + (low_sum p.below (back E m (offset sh d (set_of p.s) p.v)) (back U m (offset sh d (set_of p.q) p.u))
+      + (low_sum (count p) (back E m (offset sh d (v_of p).s (v_of p).t)) (back U m (offset sh d (u_of p).s (u_of p).t))
       + (charge A m (offset sh d A (pivot p A)) + charge B m (offset sh d B (pivot p B))))
   unfolding residue left met
   residue_charged d m =
-      let s = set_of p.s in
-      let q = set_of p.q in
+      let s = (v_of p).s in
+      let q = (u_of p).s in
       omega (
         arith,
-        low_sets p.below s q (λ c. back (early E) m (offset sh d c (pivot p c))) (λ c. back (early U) m (offset sh d c (pivot p c))),
-        low_add p.below (back E m (offset sh d s p.v)) (back U m (offset sh d q p.u))
+        low_sets (count p) s q (λ c. back (early E) m (offset sh d c (pivot p c))) (λ c. back (early U) m (offset sh d c (pivot p c))),
+        low_add (count p) (back E m (offset sh d s (v_of p).t)) (back U m (offset sh d q (u_of p).t))
             (back (early E) m (offset sh d s (pivot p s))) (back (early U) m (offset sh d q (pivot p q))),
       )
 
@@ -240,7 +222,7 @@ module _ (sh : Shape) (f : TrackFlags) (p : Form) (D W P : TrackSet → Stream) 
 
   unflagged : (c : TrackSet) (t m : ℕ) → m < track_length sh → f c t ≡ false → errors p P U E c t m ≡ 0
   unflagged c t m b off = errors_zero sh p P U E c t m (λ d. pivot_off d c t m b off)
-      (λ h. flag_off (set_of p.s) p.v E (fits.v_flagged h) c t m off) (λ h. flag_off (set_of p.q) p.u U (fits.u_flagged h) c t m off)
+      (λ h. flag_off (v_of p).s (v_of p).t E (fits.v_flagged h) c t m off) (λ h. flag_off (u_of p).s (u_of p).t U (fits.u_flagged h) c t m off)
 
 -- The tail of a track below the pivots.
 low_tail : (s : TrackSet) (v : ℕ) (e : Stream) (c : TrackSet) (t m : ℕ) → 1 ≤ t → (1 ≤ v → e m ≡ 0) → put s v e c t m ≡ 0
@@ -251,8 +233,8 @@ low_tail s (suc v) e c t m k h = put_zero s (suc v) e c t m (h (omega arith))
 pub sound : (sh : Shape) (x : Cells) (f : TrackFlags) (p : Form) (D W P : TrackSet → Stream) (U E : Stream) →
     Tails sh x → Sums sh x D W → Fits sh f p → Tested sh (vertical_end sh) p D W U E (track_length sh) →
     ((c : TrackSet) (m : ℕ) → m < track_length sh → P c m ≡ cut (vertical_end sh) (λ k. pivot_sum sh (vertical_end sh) p D W U E c k % 2) m) →
-    (2 ≤ p.below → 1 ≤ p.u → (m : ℕ) → m < track_length sh → sh.positions ≤ m → U m ≡ 0) →
-    (1 ≤ p.below → 1 ≤ p.v → (m : ℕ) → m < track_length sh → sh.positions ≤ m → E m ≡ 0) →
+    (2 ≤ count p → 1 ≤ (u_of p).t → (m : ℕ) → m < track_length sh → sh.positions ≤ m → U m ≡ 0) →
+    (1 ≤ count p → 1 ≤ (v_of p).t → (m : ℕ) → m < track_length sh → sh.positions ≤ m → E m ≡ 0) →
     Good sh (plus x (errors p P U E))
 sound sh x f p D W P U E tails sums fits tested pivots_are u_end v_end = good_bits sh (x ⊞ errors p P U E)
     (λ d m b. omega (
@@ -271,8 +253,8 @@ sound sh x f p D W P U E tails sums fits tested pivots_are u_end v_end = good_bi
       arith,
       tails c t m k h l b,
       errors_zero sh p P U E c t m (λ d. pivot_tail sh f p D W P U E fits tested pivots_are d c t m k h l b)
-          (λ n. low_tail (set_of p.s) p.v E c t m k (λ i. v_end n i m b l))
-          (λ n. low_tail (set_of p.q) p.u U c t m k (λ i. u_end n i m b l)),
+          (λ n. low_tail (v_of p).s (v_of p).t E c t m k (λ i. v_end n i m b l))
+          (λ n. low_tail (u_of p).s (u_of p).t U c t m k (λ i. u_end n i m b l)),
     ))
 
 -- And it agrees with x off the flags.

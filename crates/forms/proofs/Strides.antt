@@ -1,15 +1,16 @@
 -- Two tracks below the pivots: where the diagonals meet their pairs.
-use mathlib.Core.Path.{◌≡◌, refl, ap}
+use mathlib.Core.Path.{◌≡◌, refl}
 use mathlib.Core.Logic.{◌≢◌, ⊎_elim, by_cases}
 use Prim.Native.Nat.{ℕ, zero, suc, ◌+◌, ◌-◌, ◌<◌, ◌≤◌}
 use native.Mathlib.Decide.{dec_le}
 use native.Mathlib.Omega.{arith}
-use Rattle.code.specs.Record.{TrackSet, A, B, other, Shape, data_tracks, lag, track_length}
+use Rattle.code.specs.declared.sizes.TrackSet.{TrackSet}
+use Rattle.code.specs.declared.sizes.TrackSet.TheVariants.{A, B}
+use Rattle.code.specs.Record.{other, Shape, data_tracks, lag, track_length}
 use Rattle.code.proofs.Cell.{lag_sets}
 use Rattle.code.proofs.OneTrack.{offset, offset_vertical, offset_both}
-use Rattle.syndrome.specs.Syndrome.{set_of}
 use Rattle.plans.specs.declared.Form.{Form}
-use Rattle.plans.specs.Plans.{pivot, Sized}
+use Rattle.plans.specs.Plans.{pivot, Sized, count, v_of, u_of}
 use Rattle.forms.specs.Forms.{Below, top, point}
 use Rattle.forms.specs.Found.{extent}
 use Rattle.forms.proofs.Lows.{form_order}
@@ -108,9 +109,9 @@ module _ (sh : Shape) (v u w : ℕ) (within : w ≤ track_length sh) where
   strides B B j bv bu rising fewer = same_set B (j B) bv bu (rising refl)
 
 -- Those of a form.
-pub form_strides : (sh : Shape) (end : ℕ) (p : Form) → Sized sh p → end ≤ track_length sh → 2 ≤ p.below →
-    Strides sh (set_of p.s) p.v (pivot p (set_of p.s)) (set_of p.q) p.u (pivot p (set_of p.q)) (extent sh end p.u)
+pub form_strides : (sh : Shape) (end : ℕ) (p : Form) → Sized sh p → end ≤ track_length sh → 2 ≤ count p →
+    Strides sh (v_of p).s (v_of p).t (pivot p (v_of p).s) (u_of p).s (u_of p).t (pivot p (u_of p).s) (extent sh end (u_of p).t)
 form_strides sh end p sized within h =
     let o = form_order sh p sized in
-    strides sh p.v p.u end within (set_of p.s) (set_of p.q) (pivot p) (o.v_below (omega arith)) (o.u_below h) (o.rising h)
-    (λ n. sized.fewer h (λ e. n (ap set_of e)))
+    strides sh (v_of p).t (u_of p).t end within (v_of p).s (u_of p).s (pivot p) (o.v_below (omega arith)) (o.u_below h) (o.rising h)
+    (λ n. sized.fewer h n)

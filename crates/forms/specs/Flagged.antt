@@ -1,6 +1,7 @@
 -- The flagged tracks of a set, as a list, highest first.
 use Rattle.std.specs.Prelude.{◌≡◌, List, [], ◌∷◌, ℕ, ◌+◌, ◌<◌}
-use Rattle.code.specs.Record.{TrackSet, Shape, tracks, track_length, Cells}
+use Rattle.code.specs.declared.sizes.TrackSet.{TrackSet}
+use Rattle.code.specs.Record.{Shape, tracks, track_length, Cells}
 use Rattle.plans.specs.Lists.{Falls, Off}
 
 abbrev pub total : List ℕ → (ℕ → ℕ) → ℕ

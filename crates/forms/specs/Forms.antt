@@ -3,7 +3,9 @@
 use Rattle.std.proofs.Math.Logic.{ite}
 use Rattle.std.specs.Prelude.{ℕ, ◌+◌, ◌-◌, ◌<◌, ◌≤◌}
 use Rattle.std.proofs.Math.Decide.{dec_le}
-use Rattle.code.specs.Record.{TrackSet, A, B, Shape, data_tracks, lag, track_length, back}
+use Rattle.code.specs.declared.sizes.TrackSet.{TrackSet}
+use Rattle.code.specs.declared.sizes.TrackSet.TheVariants.{A, B}
+use Rattle.code.specs.Record.{Shape, data_tracks, lag, track_length, back}
 use Rattle.code.proofs.OneTrack.{offset}
 use Rattle.plans.specs.declared.Form.{Form}
 use Rattle.plans.specs.Plans.{pivot}

@@ -8,10 +8,12 @@ use native.Mathlib.Omega.{arith}
 use borrow.Rule.Slice.PartMut.{put_mid}
 use lib.ListN.{length, get_or, take, drop}
 use lib.Seq.{get_or-take, length-take-le}
-use Rattle.code.specs.Record.{TrackSet, A, B, tracks, track_length, Cells, back}
+use Rattle.code.specs.declared.sizes.TrackSet.{TrackSet}
+use Rattle.code.specs.declared.sizes.TrackSet.TheVariants.{A, B}
+use Rattle.code.specs.Record.{row_of, tracks, track_length, Cells, back}
 use Rattle.code.specs.Image.{track_number}
 use Rattle.code.specs.Sizes.{shape}
-use Rattle.code.specs.declared.Sizes.{Sizes}
+use Rattle.code.specs.declared.sizes.Sizes.{Sizes}
 use Rattle.code.proofs.Linear.{◌⊞◌}
 use Rattle.code.proofs.Mono.{mono_hit, mono_miss}
 use Rattle.code.proofs.OneTrack.{put, put_zero, put_number}
@@ -21,14 +23,12 @@ use Rattle.track.specs.Track as track
 use Rattle.track.proofs.Cells.{every}
 use Rattle.track.proofs.Parts.{part_at, put_before, put_in, put_after}
 use Rattle.track.proofs.Rows.{part, part_length, part_row, new_length, new_here, new_there}
-use Rattle.syndrome.specs.Syndrome.{set_of, row_of, Image}
+use Rattle.syndrome.specs.Syndrome.{Image}
 use Rattle.plans.specs.declared.Form.{Form}
-use Rattle.plans.specs.Plans.{pivot, room, Sized}
 use Rattle.forms.specs.Streams.{Stream}
-use Rattle.forms.specs.Found.{low_sum, errors}
-use Rattle.forms.proofs.Lows.{low_one, low_two, low_same, low_zero, Ordered, form_order}
+use Rattle.forms.specs.Found.{errors}
 use Rattle.errors.specs.Rows.{cell}
-use Rattle.mend.specs.Mend.{RowAdded, Added}
+use Rattle.mend.specs.Mend.{RowAdded, Added, lower_errors}
 use Rattle.mend.proofs.WordRows.{cell_word}
 
 -- ## The cells of a row as bytes
@@ -115,61 +115,12 @@ module _ {z : Sizes} where
 
 -- ## The errors of a form
 
--- The lower tracks are tracks of their sets.
-pub lower_tracks : (z : Sizes) (p : Form) → Sized (shape z) p →
-    (1 ≤ p.below → p.v < tracks (shape z) (set_of p.s)) × (2 ≤ p.below → p.u < tracks (shape z) (set_of p.q))
-lower_tracks z p o = (λ h. omega (arith, (w.v_below h).on_diagonals), λ h. omega (arith, (w.u_below h).on_diagonals))
-  where
-    w : Ordered (shape z) (pivot p) p.below (set_of p.s) p.v (set_of p.q) p.u
-    w = form_order (shape z) p o
+-- A pivot without room has no errors.
+pub no_room : (z : Sizes) (s : TrackSet) (t : ℕ) (f : Stream) (a : List ℕ) → Image (shape z) a → ((m : ℕ) → m < track_length (shape z) → f m ≡ 0) → Added z (put s t f) a a
+no_room z s t f a i none = added_none i (λ c u m b. put_zero s t f c u m (none m b))
 
--- A pivot's error, the lower ones' and what counts of these.
-abbrev pub pivot_error : Form → List ℕ → TrackSet → Cells
-pivot_error p found c = put c (pivot p c) (cell found (2 + row_of c))
-
-abbrev pub v_error : Form → List ℕ → Cells
-v_error p found = put (set_of p.s) p.v (cell found 1)
-
-abbrev pub u_error : Form → List ℕ → Cells
-u_error p found = put (set_of p.q) p.u (cell found 0)
-
-abbrev lower : Form → List ℕ → Cells → Cells
-lower p found y s t m = low_sum p.below (v_error p found s t m) (y s t m)
-
-abbrev nothing : Cells
-nothing s t m = 0
-
-module _ (z : Sizes) (p : Form) (found : List ℕ) where
-  -- What is added after the pivots of both sets, after v, and after u.
-  abbrev pub Pivots : List ℕ → List ℕ → Type 0
-  Pivots a b = Added z (pivot_error p found A ⊞ pivot_error p found B) a b
-
-  abbrev pub Lower : List ℕ → List ℕ → Type 0
-  Lower a b = Added z (pivot_error p found A ⊞ pivot_error p found B ⊞ lower p found nothing) a b
-
-  abbrev pub All : List ℕ → List ℕ → Type 0
-  All a b = Added z (errors p (λ c. cell found (2 + row_of c)) (cell found 0) (cell found 1)) a b
-
-  -- A pivot without room has no errors.
-  pub no_room : (c : TrackSet) {a : List ℕ} → Image (shape z) a → room p c ≡ 0 →
-      ((d : TrackSet) → room p d ≡ 0 → (m : ℕ) → m < track_length (shape z) → cell found (2 + row_of d) m ≡ 0) → Added z (pivot_error p found c) a a
-  no_room c i r none = added_none i (λ s t m b. put_zero c (pivot p c) (cell found (2 + row_of c)) s t m (none c r m b))
-
-  module _ {a b : List ℕ} where
-    -- v is added, where there is one.
-    pub with_v : {c : List ℕ} → Pivots a b → 1 ≤ p.below → Added z (v_error p found) b c → Lower a c
-    with_v x h y = added_same (added_both x y) (λ s t m. omega (arith, low_one p.below (v_error p found s t m) 0 h, low_zero p.below 0 0 (λ i. refl) (λ i. refl)))
-
-    pub without_v : Pivots a b → p.below < 1 → Lower a b
-    without_v x h = added_same x (λ s t m. omega (arith, low_zero p.below (v_error p found s t m) 0 (λ i. absurd (omega arith)) (λ i. refl)))
-
-    -- u is added, where there is one.
-    pub with_u : {c : List ℕ} → Lower a b → 2 ≤ p.below → Added z (u_error p found) b c → All a c
-    unfolding errors
-    with_u x h y = added_same (added_both x y)
-        (λ s t m. omega (arith, low_two p.below (v_error p found s t m) (u_error p found s t m) h, low_two p.below (v_error p found s t m) 0 h))
-
-    pub without_u : Lower a b → p.below < 2 → All a b
-    unfolding errors
-    without_u x h = added_same x
-        (λ s t m. omega (arith, low_same p.below (v_error p found s t m) 0 (v_error p found s t m) (u_error p found s t m) (λ i. refl) (λ i. absurd (omega arith))))
+-- The errors of both pivots, then the lower ones.
+pub all_added : (z : Sizes) (p : Form) (found a b c d : List ℕ) → Added z (put A p.a.track (cell found 2)) a b → Added z (put B p.b.track (cell found 3)) b c →
+    Added z (lower_errors p found) c d → Added z (errors p (λ c. cell found (2 + row_of c)) (cell found 0) (cell found 1)) a d
+unfolding errors
+all_added z p found a b c d x y w = added_same (added_both (added_both x y) w) (λ s t m. refl)

@@ -1,3 +1,4 @@
 pub mod WordRows
 pub mod Additions
+pub mod OneTail
 pub mod Tails

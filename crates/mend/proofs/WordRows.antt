@@ -7,10 +7,12 @@ use native.Mathlib.Decide.{dec_lt, ℕ_discrete}
 use native.Mathlib.Omega.{arith}
 use lib.Bits.{bit_or, or_add_and, xor_add_and}
 use lib.ListN.{length, get_or}
-use Rattle.code.specs.Record.{TrackSet, A, B, track_length, diagonal, vertical}
+use Rattle.code.specs.declared.sizes.TrackSet.{TrackSet}
+use Rattle.code.specs.declared.sizes.TrackSet.TheVariants.{A, B}
+use Rattle.code.specs.Record.{track_length, diagonal, vertical}
 use Rattle.code.specs.Image.{cells}
 use Rattle.code.specs.Sizes.{shape}
-use Rattle.code.specs.declared.Sizes.{Sizes}
+use Rattle.code.specs.declared.sizes.Sizes.{Sizes}
 use Rattle.sums.specs.Run.{rule, RunStart}
 use Rattle.sums.specs.Edge.{RunSums}
 use Rattle.words.specs.Words.{bit, bit_at, First}
@@ -34,10 +36,7 @@ cell_past ws r m h = cut_out 2112 (λ n. bit_at ws (2176 * r + (64 + n))) m h
 
 -- ## Loading
 
--- At the start no row has its word; then the next one has.
-pub run_none : (run : List ℕ) (i n k : ℕ) (rows : List ℕ) → Rows 4 rows → RunLoaded run i n k 0 rows rows
-run_none run i n k rows h = record { rows = h; here = λ r j b. absurd (omega arith); early = λ r m b c. refl }
-
+-- The next row has its word.
 pub run_more : (run : List ℕ) (i n k q w : ℕ) (before now after : List ℕ) → RunLoaded run i n k q before now → q < 4 → Put 4 now q i w after →
     ((j : ℕ) → k + j < 64 → k + j < n → bit w j ≡ row 64 run q (k + j)) → RunLoaded run i n k (q + 1) before after
 run_more run i n k q w before now after l few p is = record {
@@ -66,9 +65,6 @@ run_word run n k q v x size h is first j b c =
 pub record SumsTo (z : Sizes) (image : List ℕ) (n : ℕ) (rows : List ℕ) : Type 0 where
   pub rows_are : Rows 4 rows
   pub sums : (r m : ℕ) → r < 4 → m < n → m < track_length (shape z) → cell rows r m ≡ rule (shape z) (cells (shape z) image) r m % 2
-
-pub sums_none : (z : Sizes) (image rows : List ℕ) → Rows 4 rows → SumsTo z image 0 rows
-sums_none z image rows h = record { rows_are = h; sums = λ r m b c. absurd (omega arith) }
 
 -- One run more.
 pub sums_more : (z : Sizes) (image run : List ℕ) (i p : ℕ) (before after : List ℕ) → SumsTo z image (64 * i) before → RunStart (track_length (shape z)) (64 * i) p →
@@ -105,10 +101,6 @@ sums_in z image n rows s all = record { rows = s.rows_are; sums = record { diago
 -- The first n words of four rows are 0.
 pub record Clear (n : ℕ) (rows : List ℕ) : Type 0 where
   pub words : (r i : ℕ) → r < 4 → i < n → get_or rows (34 * r + 1 + i) 0 ≡ 0
-
--- At the start no word is looked at.
-pub clear_none : (rows : List ℕ) → Clear 0 rows
-clear_none rows = record { words = λ r i h b. absurd (omega arith) }
 
 -- Numbers whose bits together are 0 are 0.
 or_zero : (a b : ℕ) → bit_or a b ≡ 0 → (a ≡ 0) × (b ≡ 0)

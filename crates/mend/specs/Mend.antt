@@ -1,15 +1,21 @@
 -- Between bytes and words: sums loaded, errors added to the output, tails cleared.
-use Rattle.std.specs.Prelude.{◌≡◌, ◌≢◌, Bool, true, false, List, ℕ, suc, ◌+◌, ◌*◌, ◌<◌, ◌≤◌, ◌%◌, length, get_or}
-use Rattle.code.specs.Record.{TrackSet, tracks, track_length, Cells}
+use Rattle.std.specs.Prelude.{◌≡◌, ◌≢◌, Bool, true, false, Option, Some, List, ℕ, ◌+◌, ◌*◌, ◌<◌, ◌≤◌, ◌%◌, length, get_or}
+use Rattle.code.specs.declared.sizes.TrackSet.{TrackSet}
+use Rattle.code.specs.Record.{tracks, track_length, Cells}
 use Rattle.code.specs.Image.{cells}
 use Rattle.code.specs.Flags.{TrackFlags}
 use Rattle.code.specs.Sizes.{shape}
-use Rattle.code.specs.declared.Sizes.{Sizes}
+use Rattle.code.specs.declared.sizes.Sizes.{Sizes}
 use Rattle.code.proofs.Linear.{plus}
+use Rattle.code.proofs.OneTrack.{put}
 use Rattle.track.specs.Track.{row}
 use Rattle.syndrome.specs.Syndrome.{Image}
-use Rattle.forms.specs.Found.{Sums}
+use Rattle.plans.specs.declared.Form.{Form}
+use Rattle.plans.specs.Plans.{count, v_of, u_of}
+use Rattle.forms.specs.Found.{Sums, low_sum}
 use Rattle.errors.specs.Rows.{cell, Rows, diagonals, verticals}
+use Rattle.mend.specs.declared.Need.{Need}
+use Rattle.mend.specs.declared.Need.TheVariants.{Nothing, Track, More}
 
 -- ## Sums
 
@@ -44,6 +50,11 @@ pub record Added (z : Sizes) (e : Cells) (before after : List ℕ) : Type 0 wher
   pub cell_at : (s : TrackSet) (t m : ℕ) → t < tracks (shape z) s → m < track_length (shape z) →
       cells (shape z) after s t m ≡ plus (cells (shape z) before) e s t m
 
+-- The errors below the pivots of a form: v's, and u's where there are two.
+abbrev pub lower_errors : Form → List ℕ → Cells
+lower_errors p found c t m =
+    low_sum (count p) (put (v_of p).s (v_of p).t (cell found 1) c t m) (put (u_of p).s (u_of p).t (cell found 0) c t m)
+
 -- ## Tails
 
 -- The tail of track t of set s is 0 now, and no other cell is changed. r says whether it was not.
@@ -55,17 +66,29 @@ pub record TailCleared (z : Sizes) (s : TrackSet) (t : ℕ) (before after : List
   pub was_zero : r ≡ false → (m : ℕ) → z.positions ≤ m → m < track_length (shape z) → cells (shape z) before s t m ≡ 0
   pub was_not : r ≡ true → ((m : ℕ) → z.positions ≤ m → m < track_length (shape z) → cells (shape z) before s t m ≡ 0) → ⊥
 
--- Of the tracks of set s from 1 up to n, those that are not flagged are 0 in the tail, but for track e - 1.
-abbrev pub TailsBut : Sizes → TrackSet → TrackFlags → List ℕ → ℕ → ℕ → Type 0
-TailsBut z s f image n e = (t m : ℕ) → 1 ≤ t → t < n → f s t ≡ false → suc t ≢ e → z.positions ≤ m → m < track_length (shape z) →
+-- Does an extra, none or a track, explain what is needed?
+abbrev pub Explained : Need → Option ℕ → Type 0
+Explained Nothing e = Unit {0}
+Explained (Track t) e = e ≡ Some t
+Explained More e = ⊥
+
+-- What is needed with track t besides: no extra explains both but t, and t alone where nothing was needed.
+abbrev pub with_track : Need → ℕ → Need
+with_track Nothing t = Track t
+with_track (Track u) t = More
+with_track More t = More
+
+-- Of the tracks of set s from 1 up to n, those that are not flagged are 0 in the tail, but for the extra e.
+abbrev pub TailsBut : Sizes → TrackSet → TrackFlags → List ℕ → ℕ → Option ℕ → Type 0
+TailsBut z s f image n e = (t m : ℕ) → 1 ≤ t → t < n → f s t ≡ false → e ≢ Some t → z.positions ≤ m → m < track_length (shape z) →
     cells (shape z) image s t m ≡ 0
 
--- The tails of the tracks of set s from 1 up to n are 0 now. `need` is 0 where those that are not flagged were so before; else no
--- extra track e - 1 but need - 1 makes them so.
-pub record TailsCleared (z : Sizes) (s : TrackSet) (f : TrackFlags) (n : ℕ) (before after : List ℕ) (need : ℕ) : Type 0 where
+-- The tails of the tracks of set s from 1 up to n are 0 now. Those that are not flagged were so before, but for an extra, exactly where
+-- the extra explains the need.
+pub record TailsCleared (z : Sizes) (s : TrackSet) (f : TrackFlags) (n : ℕ) (before after : List ℕ) (need : Need) : Type 0 where
   pub image : Image (shape z) after
   pub zero : (t m : ℕ) → 1 ≤ t → t < n → z.positions ≤ m → m < track_length (shape z) → cells (shape z) after s t m ≡ 0
   pub same : (c : TrackSet) (t m : ℕ) → t < tracks (shape z) c → m < track_length (shape z) → (c ≡ s → 1 ≤ t → t < n → z.positions ≤ m → ⊥) →
       cells (shape z) after c t m ≡ cells (shape z) before c t m
-  pub fits : (e : ℕ) → e ≤ 9 → (need ≢ 0 → need ≡ e) → TailsBut z s f before n e
-  pub fails : (e : ℕ) → e ≤ 9 → need ≢ 0 → need ≢ e → TailsBut z s f before n e → ⊥
+  pub fits : (e : Option ℕ) → Explained need e → TailsBut z s f before n e
+  pub fails : (e : Option ℕ) → (Explained need e → ⊥) → TailsBut z s f before n e → ⊥

@@ -7,8 +7,11 @@ use native.Mathlib.Decide.{dec_lt, ℕ_discrete}
 use native.Mathlib.Nat.{mod-lt}
 use native.Mathlib.Omega.{arith}
 use borrow.Rule.Slice.PartMut.{put_mid}
-use lib.ListN.{length, get_or, get_or-eq_default}
-use Rattle.code.specs.Record.{TrackSet, A, B, base, tracks, track_length}
+use lib.ListN.{length, get_or, take, drop, get_or-eq_default}
+use Rattle.std.specs.declared.ops.Range.{Range}
+use Rattle.code.specs.Record.{base, tracks, track_length}
+use Rattle.code.specs.declared.sizes.TrackSet.{TrackSet}
+use Rattle.code.specs.declared.sizes.TrackSet.TheVariants.{A, B}
 use Rattle.code.specs.Image.{track_number, image_size, cells}
 use Rattle.code.specs.Payload.{digits}
 use Rattle.code.specs.Packed.{head_place, track_bytes, padded, PackedForm, PaddingSet}
@@ -17,7 +20,7 @@ use Rattle.code.proofs.Packing.{head_lt, padded_in, padded_out}
 use Rattle.code.proofs.Places.{each_cell}
 use Rattle.track.specs.Track.{row}
 use Rattle.track.proofs.Rows.{row_end, part, part_length, part_row, new_length, new_here, new_there}
-use Rattle.packed.specs.Steps.{head_number, HeadNumber, Sized, TrackPacked, TracksPacked, TrackUnpacked, TracksUnpacked}
+use Rattle.packed.specs.Steps.{head_number, TrackAt, BytesAt, Sized, TrackPacked, TracksPacked, TrackUnpacked, TracksUnpacked}
 
 -- ## Head order
 
@@ -37,30 +40,18 @@ module _ (n : ℕ) where
   abbrev w : ℕ
   w = track_bytes n
 
-  -- What a track and a place take is few.
-  pub track_few : (p g : ℕ) → HeadNumber p g → n ≤ 256 → g * l + l ≤ 37134
-  track_few p g number few = omega (arith, row_end l g 18 number.small)
-
-  pub place_few : (p : ℕ) → p < 18 → n ≤ 256 → p * w + w ≤ 4644
-  place_few p small few = omega (arith, row_end w p 18 small)
-
   -- ## Packing
 
-  -- At first none is packed.
-  pub packed_none : (image packed : List ℕ) → Sized n image packed → TracksPacked n 0 image packed
-  packed_none image packed s = record { sized = s; byte = λ q j h k. absurd (omega arith) }
+  module _ (p : ℕ) (image packed : List ℕ) (sized : Sized n image packed) (place_small : p < 18) where
+    abbrev g : ℕ
+    g = head_number p
 
-  module _ (p : ℕ) (image packed : List ℕ) (sized : Sized n image packed) (g : ℕ) (number : HeadNumber p g) (place_small : p < 18) where
     -- The image has the track, and the packed form the place.
-    pub track_room : g * l + l ≤ length image
-    track_room = omega (arith, row_end l g 18 number.small, sized.whole)
+    track_room : g * l + l ≤ length image
+    track_room = omega (arith, row_end l g 18 (omega arith), sized.whole)
 
-    pub place_room : p * w + w ≤ length packed
+    place_room : p * w + w ≤ length packed
     place_room = omega (arith, row_end w p 18 place_small, sized.form.size)
-
-    -- A track has one cell less than its bytes have bits.
-    pub track_fits : 8 * length (part w packed p) ≡ length (part l image g) + 1
-    track_fits = omega (arith, part_length l image g track_room, part_length w packed p place_room)
 
     -- Past its end a track counts as 0.
     track_padded : (m : ℕ) → get_or (part l image g) m 0 ≡ padded n (row l image g) m
@@ -69,35 +60,42 @@ module _ (n : ℕ) where
         (λ h. get_or-eq_default (part l image g) 0 {n = m} (omega (arith, part_length l image g track_room)) ∙ sym (padded_out n (row l image g) m (omega arith)))
 
     -- One more is packed.
-    pub packed_more : (ys : List ℕ) → TracksPacked n p image packed → TrackPacked (part l image g) (part w packed p) ys →
+    packed_at : (ys : List ℕ) → TracksPacked n p image packed → TrackPacked (part l image g) (part w packed p) ys →
         TracksPacked n (p + 1) image (put_mid (p * w) (p * w + w - p * w) packed ys)
-    packed_more ys t k = record {
+    packed_at ys t k = record {
       sized = record { form = record { few = sized.form.few; size = new_length w packed p place_room ys k.size ∙ sized.form.size }; whole = sized.whole };
       byte = λ q j h b. by_cases (ℕ_discrete q p)
-          (λ e. rw (e, sym number.is) (new_here w packed p place_room ys k.size j b
+          (λ e. rw e (new_here w packed p place_room ys k.size j b
           ∙ k.byte j (omega (arith, part_length w packed p place_room)) ∙ digits_same 8 _ _ (λ i c. track_padded (8 * j + i))))
           (λ d. new_there w packed p place_room ys k.size q j d b ∙ t.byte q j (omega arith) b);
     }
 
+    pub packed_more : (from to : Range ℕ) → TrackAt n p from → BytesAt n p to → (ys : List ℕ) → TracksPacked n p image packed →
+        TrackPacked (take (from.end - from.start) (drop from.start image)) (take (to.end - to.start) (drop to.start packed)) ys →
+        TracksPacked n (p + 1) image (put_mid to.start (to.end - to.start) packed ys)
+    packed_more from to f t ys s k = rw (t.end, t.start) (packed_at ys s (rw (f.end, f.start, t.end, t.start) at k))
+
     -- ## Unpacking
 
     -- One more is unpacked.
-    pub unpacked_more : (ys : List ℕ) → TracksUnpacked n p packed image → TrackUnpacked (part w packed p) (part l image g) ys →
+    unpacked_at : (ys : List ℕ) → TracksUnpacked n p packed image → TrackUnpacked (part w packed p) (part l image g) ys →
         TracksUnpacked n (p + 1) packed (put_mid (g * l) (g * l + l - g * l) image ys)
-    unpacked_more ys t u = record {
+    unpacked_at ys t u = record {
       sized = record { form = sized.form; whole = new_length l image g track_room ys u.size ∙ sized.whole };
       byte = λ q j h b. by_cases (ℕ_discrete q p)
           (λ e. rw (e, sym (part_row w packed p place_room j b)) (u.byte j (omega (arith, part_length l image g track_room))))
           (λ d. t.byte q j (omega arith) b);
       cell = λ q j k h b c. by_cases (ℕ_discrete q p)
-          (λ e. rw (e, sym number.is) (new_here l image g track_room ys u.size (8 * j + k) c
+          (λ e. rw e (new_here l image g track_room ys u.size (8 * j + k) c
           ∙ u.cell j k b (omega (arith, part_length l image g track_room)) ∙ ap (λ (v : ℕ). v / 2 ^ (8 - suc k) % 2) (part_row w packed p place_room j (omega arith))))
-          (λ d. new_there l image g track_room ys u.size (head_number q) (8 * j + k) (λ f. head_apart q p (omega arith) place_small d (f ∙ number.is)) c
+          (λ d. new_there l image g track_room ys u.size (head_number q) (8 * j + k) (λ f. head_apart q p (omega arith) place_small d f) c
           ∙ t.cell q j k (omega arith) b c);
     }
 
-  pub unpacked_none : (image packed : List ℕ) → Sized n image packed → TracksUnpacked n 0 packed image
-  unpacked_none image packed s = record { sized = s; byte = λ q j h k. absurd (omega arith); cell = λ q j k h b c. absurd (omega arith) }
+    pub unpacked_more : (from to : Range ℕ) → BytesAt n p from → TrackAt n p to → (ys : List ℕ) → TracksUnpacked n p packed image →
+        TrackUnpacked (take (from.end - from.start) (drop from.start packed)) (take (to.end - to.start) (drop to.start image)) ys →
+        TracksUnpacked n (p + 1) packed (put_mid to.start (to.end - to.start) image ys)
+    unpacked_more from to f t ys s u = rw (t.end, t.start) (unpacked_at ys s (rw (f.end, f.start, t.end, t.start) at u))
 
   -- ## All tracks
 

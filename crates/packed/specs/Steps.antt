@@ -1,5 +1,6 @@
 -- What the private functions ask and give.
 use Rattle.std.specs.Prelude.{◌≡◌, Bool, true, false, List, ℕ, suc, ◌+◌, ◌*◌, ◌-◌, ◌/◌, ◌%◌, ◌^◌, ◌<◌, ◌≤◌, length, get_or}
+use Rattle.std.specs.declared.ops.Range.{Range}
 use Rattle.code.specs.Record.{base, track_length}
 use Rattle.code.specs.Image.{image_size}
 use Rattle.code.specs.Payload.{digits}
@@ -13,6 +14,15 @@ head_number p = p / 2 + 9 * (p % 2)
 pub record HeadNumber (p r : ℕ) : Type 0 where
   pub is : r ≡ head_number p
   pub small : r < 18
+
+-- Where the track at place p of head order begins and ends in an image, and its bytes in a packed form.
+pub record TrackAt (n p : ℕ) (r : Range ℕ) : Type 0 where
+  pub start : r.start ≡ head_number p * track_length (base n)
+  pub end : r.end ≡ r.start + track_length (base n)
+
+pub record BytesAt (n p : ℕ) (r : Range ℕ) : Type 0 where
+  pub start : r.start ≡ p * track_bytes n
+  pub end : r.end ≡ r.start + track_bytes n
 
 -- Room for a packed form of n blocks.
 pub record PackedSized (n : ℕ) (packed : List ℕ) : Type 0 where

@@ -5,10 +5,12 @@ use mathlib.Core.List.{List}
 use Prim.Native.Nat.{ℕ, ◌+◌, ◌<◌, ◌≤◌}
 use native.Mathlib.Decide.{dec_lt, ℕ_discrete}
 use native.Mathlib.Omega.{arith}
-use borrow.Author.Tests.{lt-ltb, le-ltb, eq-eqb, ne_eqb}
-use lib.Dec.{ltb, eqb}
+use borrow.Author.Tests.{lt-ltb, le-ltb}
+use lib.Dec.{ltb}
 use lib.ListN.{get_or}
-use Rattle.code.specs.Record.{TrackSet, Shape, tracks}
+use Rattle.std.proofs.Common.{None, Some}
+use Rattle.code.specs.declared.sizes.TrackSet.{TrackSet}
+use Rattle.code.specs.Record.{Shape, tracks}
 use Rattle.code.specs.Image.{track_number}
 use Rattle.code.specs.Flags.{TrackFlags, bit, flag_count}
 use Rattle.code.proofs.Sums.{sum_le}
@@ -48,7 +50,7 @@ below_few sh t f s = sum_le (tracks sh s) _ _ (λ u l. and_le (ltb u t) (f s u))
     and_le false b = omega arith
 
 -- None of the tracks is seen.
-pub find_none : (sh : Shape) (f : TrackFlags) (s : TrackSet) → ThreeOf sh (below 0 f) s (record { high = 0; middle = 0; low = 0 })
+pub find_none : (sh : Shape) (f : TrackFlags) (s : TrackSet) → ThreeOf sh (below 0 f) s (record { high = None; middle = None; low = None })
 find_none sh f s = record {
   within = omega arith;
   sorted = record { middle_lower = λ l. absurd (omega arith); low_lower = λ l. absurd (omega arith) };
@@ -66,18 +68,18 @@ pub find_all : (sh : Shape) (f : TrackFlags) (s : TrackSet) (t : ℕ) (x : Three
 find_all sh f s t x h o = three_same sh s (below t f) f x (λ u l. sym (below_yes t f s u (omega arith))) o
 
 -- Track t is seen, by its mark.
-module _ (sh : Shape) (marks : List ℕ) (s : TrackSet) (first t : ℕ) (x : Three) (start : track_number sh s 0 ≡ first) (o : ThreeOf sh (below t (marked sh marks)) s x) where
-  mark_at : eqb (get_or marks (first + t) 0) 1 ≡ marked sh marks s t
-  mark_at = ap (λ (k : ℕ). eqb (get_or marks k 0) 1) (omega (arith, number_from sh s t))
+module _ (sh : Shape) (marks : List Bool) (s : TrackSet) (first t : ℕ) (x : Three) (start : track_number sh s 0 ≡ first) (o : ThreeOf sh (below t (marked sh marks)) s x) where
+  mark_at : get_or marks (first + t) false ≡ marked sh marks s t
+  mark_at = ap (λ (k : ℕ). get_or marks k false) (omega (arith, number_from sh s t))
 
-  pub find_same : (get_or marks (first + t) 0 ≡ 1 → ⊥) → ThreeOf sh (below (t + 1) (marked sh marks)) s x
-  find_same n = three_same sh s _ _ x (λ u l. below_next t (marked sh marks) s u (λ e. ap (marked sh marks s) e ∙ sym mark_at ∙ ne_eqb _ _ n)) o
+  pub find_same : get_or marks (first + t) false ≡ false → ThreeOf sh (below (t + 1) (marked sh marks)) s x
+  find_same n = three_same sh s _ _ x (λ u l. below_next t (marked sh marks) s u (λ e. ap (marked sh marks s) e ∙ sym mark_at ∙ n)) o
 
-  pub find_more : (r : Three) → get_or marks (first + t) 0 ≡ 1 → t < tracks sh s → flag_count sh (marked sh marks) s ≤ 3 → Inserted x (t + 1) r →
+  pub find_more : (r : Three) → get_or marks (first + t) false ≡ true → t < tracks sh s → flag_count sh (marked sh marks) s ≤ 3 → Inserted x (Some t) r →
       ThreeOf sh (below (t + 1) (marked sh marks)) s r
   find_more r e l few i = i.is sh s _ _ (record {
     within = omega arith;
     was = λ u d. below_no t (marked sh marks) s u (omega arith);
-    here = λ u d. let h : u ≡ t = omega arith in below_yes (t + 1) (marked sh marks) s u (omega arith) ∙ ap (marked sh marks s) h ∙ sym mark_at ∙ eq-eqb _ _ e;
+    here = λ u d. let h : u ≡ t = omega arith in below_yes (t + 1) (marked sh marks) s u (omega arith) ∙ ap (marked sh marks s) h ∙ sym mark_at ∙ e;
     there = λ u k d. below_next t (marked sh marks) s u (λ h. absurd (omega arith));
   }) (omega (arith, below_few sh (t + 1) (marked sh marks) s)) o

@@ -6,31 +6,28 @@ use mathlib.Core.List.{List, [], ◌∷◌}
 use Prim.Native.Nat.{ℕ, zero, suc, ◌-◌, ◌<◌, ◌≤◌}
 use native.Mathlib.Decide.{dec_lt, ℕ_discrete}
 use native.Mathlib.Omega.{arith}
-use borrow.Author.Tests.{ltb-true, ltb-false, lt-ltb, le-ltb}
+use borrow.Author.Tests.{ltb-true, ltb-false}
 use lib.Dec.{ltb}
-use Rattle.code.specs.Record.{TrackSet, A, B, Closing, closed_tail, open_tail, by_closing, Shape, data_tracks, tracks, track_length, vertical_end}
+use Rattle.code.specs.declared.sizes.TrackSet.{TrackSet}
+use Rattle.code.specs.declared.sizes.TrackSet.TheVariants.{A, B}
+use Rattle.code.specs.Record.{Closing, closed_tail, open_tail, by_closing, Shape, data_tracks, tracks, track_length, vertical_end}
+use Rattle.std.specs.Prelude.{Option, None, Some}
 use Rattle.code.specs.Flags.{TrackFlags, flag_count}
 use Rattle.code.specs.Reach.{pick}
 use Rattle.code.specs.Sizes.{shape}
-use Rattle.code.specs.declared.Sizes.{Sizes}
+use Rattle.code.specs.declared.sizes.Sizes.{Sizes}
 use Rattle.code.proofs.Patterns.{in_each}
-use Rattle.syndrome.specs.Syndrome.{set_of}
 use Rattle.plans.specs.declared.Three.{Three}
 use Rattle.plans.specs.declared.Pivot.{Pivot}
+use Rattle.plans.specs.declared.Track.{Track}
+use Rattle.plans.specs.declared.Below.TheVariants.{One, Two}
 use Rattle.plans.specs.declared.Form.{Form}
 use Rattle.plans.specs.Lists.{Falls, Off}
-use Rattle.plans.specs.Plans.{ThreeOf, lone_zero, pivot_at, second_at, pivot, room, lows, Room, no_pivot, data_pivot, zero_pivot, vertical_pivot, Fits, Formed}
+use Rattle.plans.specs.Plans.{place, ThreeOf, lone_zero, pivot_at, second_at, pivot, room, count, v_of, u_of, lows, Room, no_pivot, data_pivot, zero_pivot, vertical_pivot, Fits, Formed}
 
 -- ## The highest track below the pivot
 
--- It is track 0, where the tail is open and no other is flagged.
-pub second_lone : (z : Sizes) (x : Three) → z.closed ≡ false → x.high ≡ 1 → 1 ≡ second_at (shape z).closing x.high x.middle
-second_lone z x e d = rw (e, d)
-
--- Else it is the second flagged track.
-pub second_closed : (z : Sizes) (x : Three) → z.closed ≡ true → x.middle ≡ second_at (shape z).closing x.high x.middle
-second_closed z x e = rw e
-
+-- It is the second flagged track, but where the highest is track 0 in an open tail.
 pub second_more : (c : Closing) (h m : ℕ) → h ≢ 1 → m ≡ second_at c h m
 second_more closed_tail h m d = refl
 second_more open_tail zero m d = refl
@@ -53,11 +50,6 @@ below_one : (m l v : ℕ) → suc v ≡ m → l ≡ 0 → v ∷ [] ≡ below_hig
 below_one zero l v d e = absurd (omega arith)
 below_one (suc m) zero v d e = let h : v ≡ m = omega arith in cc
 below_one (suc m) (suc l) v d e = absurd (omega arith)
-
-below_two : (m l u v : ℕ) → suc u ≡ m → suc v ≡ l → u ∷ v ∷ [] ≡ below_high m l
-below_two zero l u v d e = absurd (omega arith)
-below_two (suc m) zero u v d e = absurd (omega arith)
-below_two (suc m) (suc l) u v d e = let h : u ≡ m = omega arith in let k : v ≡ l = omega arith in cc
 
 -- They fall from the pivot.
 below_falls : (j m l : ℕ) → m ≤ j → (0 < l → l < m) → Falls j (below_high m l)
@@ -102,19 +94,19 @@ lower_le (suc m) h a = omega (arith, a (omega arith))
 
 module _ (sh : Shape) (f : TrackFlags) (s : TrackSet) (x : Three) (o : ThreeOf sh f s x) where
   -- The second flagged track is below the first, and the third below the second.
-  middle_le : x.middle ≤ x.high - 1
-  middle_le = lower_le x.middle x.high o.sorted.middle_lower
+  middle_le : (place x.middle) ≤ (place x.high) - 1
+  middle_le = lower_le (place x.middle) (place x.high) o.sorted.middle_lower
 
-  low_le : x.low ≤ x.middle - 1
-  low_le = lower_le x.low x.middle o.sorted.low_lower
+  low_le : (place x.low) ≤ (place x.middle) - 1
+  low_le = lower_le (place x.low) (place x.middle) o.sorted.low_lower
 
   -- The vertical track is not flagged, where no other than track 0 is.
-  vertical_clear : x.high ≤ 1 → f s (suc (data_tracks sh s)) ≡ false
+  vertical_clear : (place x.high) ≤ 1 → f s (suc (data_tracks sh s)) ≡ false
   vertical_clear h = o.others _ (omega arith) (omega arith) (omega (arith, middle_le)) (omega (arith, middle_le, low_le))
 
   -- The pivot is the highest flagged track, or there is none.
-  order_high : (p : Pivot) (m : ℕ) → m ≡ x.middle → p.track < tracks sh s → x.high ≤ suc p.track → ((t : ℕ) → t ≢ p.track → suc t ≢ x.high) →
-      Room sh f s p.track p.room → Ordered sh f s p m x.low
+  order_high : (p : Pivot) (m : ℕ) → m ≡ (place x.middle) → p.track < tracks sh s → (place x.high) ≤ suc p.track → ((t : ℕ) → t ≢ p.track → suc t ≢ (place x.high)) →
+      Room sh f s p.track p.room → Ordered sh f s p m (place x.low)
   order_high p m e i l n r = record {
     inside = i;
     second_lower = omega (arith, middle_le);
@@ -125,7 +117,7 @@ module _ (sh : Shape) (f : TrackFlags) (s : TrackSet) (x : Three) (o : ThreeOf s
   }
 
   -- Track 0 is the highest.
-  order_lone : (c : Closing) (m : ℕ) → sh.closing ≡ c → x.high ≡ 1 → m ≡ second_at c 1 x.middle → Ordered sh f s (lone_zero c sh s) m x.low
+  order_lone : (c : Closing) (m : ℕ) → sh.closing ≡ c → (place x.high) ≡ 1 → m ≡ second_at c 1 (place x.middle) → Ordered sh f s (lone_zero c sh s) m (place x.low)
   order_lone closed_tail m k e d = order_high _ m d (omega arith) (omega arith) (λ t n. omega arith)
       (zero_pivot refl (o.high_is 0 (sym e)) refl (ap (λ c. by_closing c (track_length sh) sh.positions) k))
   order_lone open_tail m k e d = record {
@@ -138,7 +130,7 @@ module _ (sh : Shape) (f : TrackFlags) (s : TrackSet) (x : Three) (o : ThreeOf s
   }
 
   -- A higher one is: how far it may be wrong.
-  room_more : (t : ℕ) → x.high ≡ suc (suc t) → Room sh f s (suc t) (pick (ltb t (data_tracks sh s)) sh.positions (vertical_end sh))
+  room_more : (t : ℕ) → (place x.high) ≡ suc (suc t) → Room sh f s (suc t) (pick (ltb t (data_tracks sh s)) sh.positions (vertical_end sh))
   room_more t e = go (ltb t (data_tracks sh s)) refl
     where
       go : (b : Bool) → ltb t (data_tracks sh s) ≡ b → Room sh f s (suc t) (pick b sh.positions (vertical_end sh))
@@ -146,76 +138,38 @@ module _ (sh : Shape) (f : TrackFlags) (s : TrackSet) (x : Three) (o : ThreeOf s
       go false d = let l = ltb-false t (data_tracks sh s) d in vertical_pivot (omega arith) (o.high_is (suc t) (sym e)) refl
 
   -- The flagged tracks in order, the pivot first.
-  ordered : (m : ℕ) → m ≡ second_at sh.closing x.high x.middle → Ordered sh f s (pivot_at sh s x.high) m x.low
-  ordered m = go x.high refl
+  ordered : (m : ℕ) → m ≡ second_at sh.closing (place x.high) (place x.middle) → Ordered sh f s (pivot_at sh s (place x.high)) m (place x.low)
+  ordered m = go (place x.high) refl
     where
-      go : (h : ℕ) → x.high ≡ h → m ≡ second_at sh.closing h x.middle → Ordered sh f s (pivot_at sh s h) m x.low
-      go zero e d = order_high _ m (d ∙ sym (second_more sh.closing zero x.middle (omega arith))) (omega arith) (omega arith) (λ t n. omega arith)
+      go : (h : ℕ) → (place x.high) ≡ h → m ≡ second_at sh.closing h (place x.middle) → Ordered sh f s (pivot_at sh s h) m (place x.low)
+      go zero e d = order_high _ m (d ∙ sym (second_more sh.closing zero (place x.middle) (omega arith))) (omega arith) (omega arith) (λ t n. omega arith)
           (no_pivot refl (vertical_clear (omega arith)) refl)
       go (suc zero) e d = order_lone sh.closing m refl e d
-      go (suc (suc t)) e d = order_high _ m (d ∙ sym (second_more sh.closing (suc (suc t)) x.middle (omega arith))) (omega arith) (omega arith) (λ u n. omega arith)
+      go (suc (suc t)) e d = order_high _ m (d ∙ sym (second_more sh.closing (suc (suc t)) (place x.middle) (omega arith))) (omega arith) (omega arith) (λ u n. omega arith)
           (room_more t e)
 
   -- With one flagged track at the most, which in an open tail is not track 0, none is below the pivot.
-  no_second : flag_count sh f s ≤ 1 → (sh.closing ≡ open_tail → f s 0 ≡ false) → 0 ≡ second_at sh.closing x.high x.middle
-  no_second few clear = go (ℕ_discrete x.high 1) sh.closing refl
+  no_second : flag_count sh f s ≤ 1 → (sh.closing ≡ open_tail → f s 0 ≡ false) → 0 ≡ second_at sh.closing (place x.high) (place x.middle)
+  no_second few clear = go (ℕ_discrete (place x.high) 1) sh.closing refl
     where
-      no_middle : Dec (0 < x.middle) → 0 ≡ x.middle
+      no_middle : Dec (0 < (place x.middle)) → 0 ≡ (place x.middle)
       no_middle (yes l) = absurd (omega (arith, o.two l))
       no_middle (no l) = omega arith
 
-      go : Dec (x.high ≡ 1) → (c : Closing) → sh.closing ≡ c → 0 ≡ second_at c x.high x.middle
-      go (no n) c k = no_middle (dec_lt 0 x.middle) ∙ second_more c x.high x.middle n
-      go (yes e) closed_tail k = no_middle (dec_lt 0 x.middle)
+      go : Dec ((place x.high) ≡ 1) → (c : Closing) → sh.closing ≡ c → 0 ≡ second_at c (place x.high) (place x.middle)
+      go (no n) c k = no_middle (dec_lt 0 (place x.middle)) ∙ second_more c (place x.high) (place x.middle) n
+      go (yes e) closed_tail k = no_middle (dec_lt 0 (place x.middle))
       go (yes e) open_tail k = absurd (true≢false (sym (o.high_is 0 (sym e)) ∙ clear k))
-
--- ## Pivots
-
--- A pivot is its track and its room.
-pivot_same : (p q : Pivot) → p.track ≡ q.track → p.room ≡ q.room → p ≡ q
-pivot_same p q a b = λ i. record { track = a i; room = b i }
-
--- The pivot of a set without flagged tracks.
-pub pivot_none : (sh : Shape) (s : TrackSet) (e : ℕ) (p : Pivot) → e ≡ 0 → p.track ≡ suc (data_tracks sh s) → p.room ≡ 0 → p ≡ pivot_at sh s e
-pivot_none sh s zero p z a b = pivot_same p _ a b
-pivot_none sh s (suc e) p z a b = absurd (omega arith)
-
--- The highest is track 0: by the closing it is the pivot, or the vertical track is.
-pivot_lone : (sh : Shape) (s : TrackSet) (e : ℕ) (c : Closing) → sh.closing ≡ c → e ≡ 1 → lone_zero c sh s ≡ pivot_at sh s e
-pivot_lone sh s e c k z = rw (z, k)
-
-pub pivot_zero : (sh : Shape) (s : TrackSet) (e : ℕ) (p : Pivot) → sh.closing ≡ closed_tail → e ≡ 1 → p.track ≡ 0 → p.room ≡ track_length sh → p ≡ pivot_at sh s e
-pivot_zero sh s e p k z a b = pivot_same p _ a b ∙ pivot_lone sh s e closed_tail k z
-
-pub pivot_open : (sh : Shape) (s : TrackSet) (e : ℕ) (p : Pivot) → sh.closing ≡ open_tail → e ≡ 1 → p.track ≡ suc (data_tracks sh s) → p.room ≡ 0 → p ≡ pivot_at sh s e
-pivot_open sh s e p k z a b = pivot_same p _ a b ∙ pivot_lone sh s e open_tail k z
-
--- It is a data track.
-pub pivot_data : (sh : Shape) (s : TrackSet) (e : ℕ) (p : Pivot) → 2 ≤ e → e - 2 < data_tracks sh s →
-    suc p.track ≡ e → p.room ≡ sh.positions → p ≡ pivot_at sh s e
-pivot_data sh s zero p h l a b = absurd (omega arith)
-pivot_data sh s (suc zero) p h l a b = absurd (omega arith)
-pivot_data sh s (suc (suc t)) p h l a b = pivot_same p _ (omega arith) (b ∙ ap (λ c. pick c sh.positions (vertical_end sh)) (sym (lt-ltb t (data_tracks sh s) (omega arith))))
-
--- It is the vertical track.
-pub pivot_vertical : (sh : Shape) (s : TrackSet) (e : ℕ) (p : Pivot) → 2 ≤ e → data_tracks sh s ≤ e - 2 →
-    suc p.track ≡ e → p.room ≡ vertical_end sh → p ≡ pivot_at sh s e
-pivot_vertical sh s zero p h l a b = absurd (omega arith)
-pivot_vertical sh s (suc zero) p h l a b = absurd (omega arith)
-pivot_vertical sh s (suc (suc t)) p h l a b = pivot_same p _ (omega arith) (b ∙ ap (λ c. pick c sh.positions (vertical_end sh)) (sym (le-ltb t (data_tracks sh s) (omega arith))))
 
 -- ## Of both sets
 
 -- A form with the pivots of both sets and the tracks below them: i - 1 and k - 1 of A, j - 1 and l - 1 of B.
 form_fits : (sh : Shape) (f : TrackFlags) (i k j l : ℕ) (p : Form) → Ordered sh f A p.a i k → Ordered sh f B p.b j l →
     lows p A ≡ below_high i k → lows p B ≡ below_high j l →
-    p.below ≤ 2 → p.s < 2 → p.q < 2 → (2 ≤ p.below → p.q ≢ p.s → data_tracks sh (set_of p.s) ≤ data_tracks sh (set_of p.q)) →
-    (1 ≤ p.below → f (set_of p.s) p.v ≡ true) → (2 ≤ p.below → f (set_of p.q) p.u ≡ true) → Fits sh f p
-form_fits sh f i k j l p oa ob la lb few s_small q_small fewer v_is u_is = record {
+    (2 ≤ count p → (u_of p).s ≢ (v_of p).s → data_tracks sh (v_of p).s ≤ data_tracks sh (u_of p).s) →
+    (1 ≤ count p → f (v_of p).s (v_of p).t ≡ true) → (2 ≤ count p → f (u_of p).s (u_of p).t ≡ true) → Fits sh f p
+form_fits sh f i k j l p oa ob la lb fewer v_is u_is = record {
   sized = record {
-    few = few;
-    s_small = s_small;
-    q_small = q_small;
     order = in_each (λ c. Falls (tracks sh c) (pivot p c ∷ lows p c))
         (rw la (ordered_falls sh f A p.a i k oa))
         (rw lb (ordered_falls sh f B p.b j l ob));
@@ -231,97 +185,52 @@ form_fits sh f i k j l p oa ob la lb few s_small q_small fewer v_is u_is = recor
 
 -- ## The forms
 
-module _ (z : Sizes) (x y : Three) (a b : Pivot) (pa : a ≡ pivot_at (shape z) A x.high) (pb : b ≡ pivot_at (shape z) B y.high) where
+-- A track of a set.
+abbrev in_set : TrackSet → ℕ → Track
+in_set s t = record { s = s; t = t }
+
+module _ (z : Sizes) (x y : Three) (a b : Pivot) (pa : a ≡ pivot_at (shape z) A (place x.high)) (pb : b ≡ pivot_at (shape z) B (place y.high)) where
   -- The flagged tracks of A and of B in order.
-  ordered_a : (f : TrackFlags) → ThreeOf (shape z) f A x → (i : ℕ) → i ≡ second_at (shape z).closing x.high x.middle → Ordered (shape z) f A a i x.low
+  ordered_a : (f : TrackFlags) → ThreeOf (shape z) f A x → (i : ℕ) → i ≡ second_at (shape z).closing (place x.high) (place x.middle) → Ordered (shape z) f A a i (place x.low)
   ordered_a f o i e = rw pa (ordered (shape z) f A x o i e)
 
-  ordered_b : (f : TrackFlags) → ThreeOf (shape z) f B y → (j : ℕ) → j ≡ second_at (shape z).closing y.high y.middle → Ordered (shape z) f B b j y.low
+  ordered_b : (f : TrackFlags) → ThreeOf (shape z) f B y → (j : ℕ) → j ≡ second_at (shape z).closing (place y.high) (place y.middle) → Ordered (shape z) f B b j (place y.low)
   ordered_b f o j e = rw pb (ordered (shape z) f B y o j e)
 
-  -- Three flagged tracks of A.
-  pub form_three_a : x.low ≢ 0 → Formed z x y (record { a = a; b = b; below = 2; s = 0; v = x.low - 1; q = 0; u = x.middle - 1 })
-  form_three_a d = record {
-    fits = λ f w ox oy.
-        let l = ox.sorted.low_lower (omega arith) in
-        let m = ox.sorted.middle_lower (omega arith) in
-        let n = ox.three (omega arith) in
-        form_fits (shape z) f _ _ _ _ _
-        (ordered_a f ox x.middle (second_more (shape z).closing x.high x.middle (omega arith)))
-        (ordered_b f oy 0 (no_second (shape z) f B y oy (omega (arith, w.in_all)) (λ k. w.if_open k A (omega (arith, w.in_set A)))))
-        (below_two x.middle x.low _ _ (omega arith) (omega arith))
-        refl
-        (omega arith) (omega arith) (omega arith) (λ h n. absurd (n refl)) (λ h. ox.low_is _ (omega arith)) (λ h. ox.middle_is _ (omega arith));
-  }
-
-  -- Three of B.
-  pub form_three_b : y.low ≢ 0 → Formed z x y (record { a = a; b = b; below = 2; s = 1; v = y.low - 1; q = 1; u = y.middle - 1 })
-  form_three_b d = record {
-    fits = λ f w ox oy.
-        let l = oy.sorted.low_lower (omega arith) in
-        let m = oy.sorted.middle_lower (omega arith) in
-        let n = oy.three (omega arith) in
-        form_fits (shape z) f _ _ _ _ _
-        (ordered_a f ox 0 (no_second (shape z) f A x ox (omega (arith, w.in_all)) (λ k. w.if_open k B (omega (arith, w.in_set B)))))
-        (ordered_b f oy y.middle (second_more (shape z).closing y.high y.middle (omega arith)))
-        refl
-        (below_two y.middle y.low _ _ (omega arith) (omega arith))
-        (omega arith) (omega arith) (omega arith) (λ h n. absurd (n refl)) (λ h. oy.low_is _ (omega arith)) (λ h. oy.middle_is _ (omega arith));
-  }
-
-  -- Two of a set at the most: i - 1 and j - 1 are below the pivots.
-  module _ (i j : ℕ) (ia : i ≡ second_at (shape z).closing x.high x.middle) (jb : j ≡ second_at (shape z).closing y.high y.middle) where
-    -- None is.
-    pub form_none : i ≡ 0 → j ≡ 0 → Formed z x y (record { a = a; b = b; below = 0; s = 0; v = 0; q = 0; u = 0 })
-    form_none d e = record {
-      fits = λ f w ox oy. form_fits (shape z) f _ _ _ _ _ (ordered_a f ox i ia) (ordered_b f oy j jb)
-          (below_none i x.low d)
-          (below_none j y.low e)
-          (omega arith) (omega arith) (omega arith) (λ h. absurd (omega arith)) (λ h. absurd (omega arith)) (λ h. absurd (omega arith));
-    }
-
+  -- Two of a set at the most: i and j are the highest below the pivots.
+  module _ (i j : Option ℕ) (ia : place i ≡ second_at (shape z).closing (place x.high) (place x.middle))
+      (jb : place j ≡ second_at (shape z).closing (place y.high) (place y.middle)) where
     -- One of A.
-    pub form_one_a : i ≢ 0 → x.low ≡ 0 → j ≡ 0 → Formed z x y (record { a = a; b = b; below = 1; s = 0; v = i - 1; q = 0; u = 0 })
-    form_one_a d e n = record {
+    pub form_one_a : (t : ℕ) → i ≡ Some t → place x.low ≡ 0 → j ≡ None → Formed z x y (record { a = a; b = b; below = One (in_set A t) })
+    form_one_a t d e n = record {
       fits = λ f w ox oy.
-          let oa = ordered_a f ox i ia in
-          form_fits (shape z) f _ _ _ _ _ oa (ordered_b f oy j jb)
-          (below_one i x.low _ (omega arith) e)
-          (below_none j y.low n)
-          (omega arith) (omega arith) (omega arith) (λ h. absurd (omega arith)) (λ h. oa.second_is _ (omega arith)) (λ h. absurd (omega arith));
-    }
-
-    -- One of B.
-    pub form_one_b : j ≢ 0 → y.low ≡ 0 → i ≡ 0 → Formed z x y (record { a = a; b = b; below = 1; s = 1; v = j - 1; q = 0; u = 0 })
-    form_one_b d e n = record {
-      fits = λ f w ox oy.
-          let ob = ordered_b f oy j jb in
-          form_fits (shape z) f _ _ _ _ _ (ordered_a f ox i ia) ob
-          (below_none i x.low n)
-          (below_one j y.low _ (omega arith) e)
-          (omega arith) (omega arith) (omega arith) (λ h. absurd (omega arith)) (λ h. ob.second_is _ (omega arith)) (λ h. absurd (omega arith));
+          let oa = ordered_a f ox (place i) ia in
+          form_fits (shape z) f _ _ _ _ _ oa (ordered_b f oy (place j) jb)
+          (below_one (place i) (place x.low) _ (sym (ap place d)) e)
+          (below_none (place j) (place y.low) (ap place n))
+          (λ h. absurd (omega arith)) (λ h. oa.second_is _ (sym (ap place d))) (λ h. absurd (omega arith));
     }
 
     -- One of each set: v is in the set with fewer data tracks.
-    module _ (da : i ≢ 0) (db : j ≢ 0) (ea : x.low ≡ 0) (eb : y.low ≡ 0) where
-      pub form_two_a : z.t1 ≤ z.t2 → Formed z x y (record { a = a; b = b; below = 2; s = 0; v = i - 1; q = 1; u = j - 1 })
+    module _ (t u : ℕ) (da : i ≡ Some t) (db : j ≡ Some u) (ea : place x.low ≡ 0) (eb : place y.low ≡ 0) where
+      pub form_two_a : z.t1 ≤ z.t2 → Formed z x y (record { a = a; b = b; below = Two (in_set A t) (in_set B u) })
       form_two_a l = record {
         fits = λ f w ox oy.
-            let oa = ordered_a f ox i ia in
-            let ob = ordered_b f oy j jb in
+            let oa = ordered_a f ox (place i) ia in
+            let ob = ordered_b f oy (place j) jb in
             form_fits (shape z) f _ _ _ _ _ oa ob
-            (below_one i x.low _ (omega arith) ea)
-            (below_one j y.low _ (omega arith) eb)
-            (omega arith) (omega arith) (omega arith) (λ h n. l) (λ h. oa.second_is _ (omega arith)) (λ h. ob.second_is _ (omega arith));
+            (below_one (place i) (place x.low) _ (sym (ap place da)) ea)
+            (below_one (place j) (place y.low) _ (sym (ap place db)) eb)
+            (λ h n. l) (λ h. oa.second_is _ (sym (ap place da))) (λ h. ob.second_is _ (sym (ap place db)));
       }
 
-      pub form_two_b : z.t2 < z.t1 → Formed z x y (record { a = a; b = b; below = 2; s = 1; v = j - 1; q = 0; u = i - 1 })
+      pub form_two_b : z.t2 < z.t1 → Formed z x y (record { a = a; b = b; below = Two (in_set B u) (in_set A t) })
       form_two_b l = record {
         fits = λ f w ox oy.
-            let oa = ordered_a f ox i ia in
-            let ob = ordered_b f oy j jb in
+            let oa = ordered_a f ox (place i) ia in
+            let ob = ordered_b f oy (place j) jb in
             form_fits (shape z) f _ _ _ _ _ oa ob
-            (below_one i x.low _ (omega arith) ea)
-            (below_one j y.low _ (omega arith) eb)
-            (omega arith) (omega arith) (omega arith) (λ h n. omega arith) (λ h. ob.second_is _ (omega arith)) (λ h. oa.second_is _ (omega arith));
+            (below_one (place i) (place x.low) _ (sym (ap place da)) ea)
+            (below_one (place j) (place y.low) _ (sym (ap place db)) eb)
+            (λ h n. omega arith) (λ h. ob.second_is _ (sym (ap place db))) (λ h. oa.second_is _ (sym (ap place da)));
       }

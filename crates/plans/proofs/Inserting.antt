@@ -1,15 +1,19 @@
 -- One flagged track more among those of a set.
 use mathlib.Core.Path.{◌≡◌, sym, ap, ◌∙◌}
-use mathlib.Core.Logic.{◌≢◌}
-use mathlib.Core.Bool.{true, false, true≢false}
+use mathlib.Core.Logic.{◌≢◌, by_cases}
+use mathlib.Core.Bool.{Bool, true, false, true≢false}
 use Prim.Native.Nat.{ℕ, suc, ◌+◌, ◌-◌, ◌<◌, ◌≤◌}
-use native.Mathlib.Decide.{dec_lt}
+use native.Mathlib.Decide.{dec_lt, ℕ_discrete}
 use native.Mathlib.Omega.{arith}
-use Rattle.code.specs.Record.{TrackSet, Shape, tracks}
+use Rattle.std.proofs.Common.{Option, None, Some, tests}
+use Rattle.std.specs.Option.{option_partial_cmp}
+use Rattle.std.specs.Ordering.{partial_lt, nat_cmp}
+use Rattle.code.specs.declared.sizes.TrackSet.{TrackSet}
+use Rattle.code.specs.Record.{Shape, tracks}
 use Rattle.code.specs.Flags.{TrackFlags, bit, flag_count}
 use Rattle.code.proofs.Sums.{sum_same, sum_but_one}
 use Rattle.plans.specs.declared.Three.{Three}
-use Rattle.plans.specs.Plans.{ThreeOf, OneMore, Inserted}
+use Rattle.plans.specs.Plans.{place, ThreeOf, OneMore, Inserted}
 
 -- Flags that agree on a set flag as many tracks of it.
 count_same : (sh : Shape) (s : TrackSet) (f g : TrackFlags) → ((t : ℕ) → t < tracks sh s → g s t ≡ f s t) → flag_count sh g s ≡ flag_count sh f s
@@ -33,53 +37,62 @@ three_same sh s f g x h o = record {
   three = λ l. omega (arith, o.three l, count_same sh s f g h);
 }
 
--- No track more.
-pub insert_none : (x : Three) (e : ℕ) → e ≡ 0 → Inserted x e x
-insert_none x e z = record { is = λ sh s f g m most o. three_same sh s f g x (λ t l. m.there t l (omega arith)) o }
+-- The order of options is that of their places.
+pub lower_place : (a b : Option ℕ) (r : Bool) → r ≡ partial_lt (option_partial_cmp (λ x y. Some (nat_cmp x y))) a b → r ≡ true → place a < place b
+lower_place None None r e h = absurd (true≢false (sym h ∙ e))
+lower_place None (Some b) r e h = omega arith
+lower_place (Some a) None r e h = absurd (true≢false (sym h ∙ e))
+lower_place (Some a) (Some b) r e h = grind (arith, tests)
 
--- Track e - 1 more, where there are three at the most.
-module _ (sh : Shape) (s : TrackSet) (f g : TrackFlags) (x : Three) (e : ℕ) (some : e ≢ 0) (m : OneMore sh s e f g) (most : flag_count sh g s ≤ 3) (o : ThreeOf sh f s x) where
+pub upper_place : (a b : Option ℕ) (r : Bool) → r ≡ partial_lt (option_partial_cmp (λ x y. Some (nat_cmp x y))) a b → r ≡ false → place b ≤ place a
+upper_place None None r e h = omega arith
+upper_place None (Some b) r e h = absurd (true≢false (sym e ∙ h))
+upper_place (Some a) None r e h = omega arith
+upper_place (Some a) (Some b) r e h = grind (arith, tests)
+
+-- A track more, where there are three at the most.
+module _ (sh : Shape) (s : TrackSet) (f g : TrackFlags) (x : Three) (e : Option ℕ) (some : place e ≢ 0) (m : OneMore sh s e f g) (most : flag_count sh g s ≤ 3) (o : ThreeOf sh f s x) where
   -- The flags count one more.
   count_more : flag_count sh g s ≡ flag_count sh f s + 1
   unfolding flag_count
   count_more =
-      let d : suc (e - 1) ≡ e = omega arith in
+      let d : suc (place e - 1) ≡ place e = omega arith in
       omega (
         arith,
-        ap bit (m.was (e - 1) d),
-        ap bit (m.here (e - 1) d),
-        sum_but_one (tracks sh s) (e - 1) (λ t. bit (f s t)) (λ t. bit (g s t)) (omega arith) (λ t l n. ap bit (sym (m.there t l (omega arith)))),
+        ap bit (m.was (place e - 1) d),
+        ap bit (m.here (place e - 1) d),
+        sum_but_one (tracks sh s) (place e - 1) (λ t. bit (f s t)) (λ t. bit (g s t)) (omega arith) (λ t l n. ap bit (sym (m.there t l (omega arith)))),
       )
 
   -- There was room for it.
-  no_low : x.low ≡ 0
-  no_low = go (dec_lt 0 x.low)
+  no_low : place x.low ≡ 0
+  no_low = go (dec_lt 0 (place x.low))
     where
-      go : Dec (0 < x.low) → x.low ≡ 0
+      go : Dec (0 < place x.low) → place x.low ≡ 0
       go (yes l) = absurd (omega (arith, o.three l, count_more))
       go (no l) = omega arith
 
   -- It was not flagged.
-  not_high : x.high ≢ e
-  not_high d = true≢false (sym (o.high_is (e - 1) (omega arith)) ∙ m.was (e - 1) (omega arith))
+  not_high : place x.high ≢ place e
+  not_high d = true≢false (sym (o.high_is (place e - 1) (omega arith)) ∙ m.was (place e - 1) (omega arith))
 
-  not_middle : x.middle ≢ e
-  not_middle d = true≢false (sym (o.middle_is (e - 1) (omega arith)) ∙ m.was (e - 1) (omega arith))
+  not_middle : place x.middle ≢ place e
+  not_middle d = true≢false (sym (o.middle_is (place e - 1) (omega arith)) ∙ m.was (place e - 1) (omega arith))
 
   -- The others are what they were.
-  high_kept : (t : ℕ) → suc t ≡ x.high → g s t ≡ true
+  high_kept : (t : ℕ) → suc t ≡ place x.high → g s t ≡ true
   high_kept t d = m.there t (omega arith) (λ n. not_high (omega arith)) ∙ o.high_is t d
 
-  middle_kept : (t : ℕ) → suc t ≡ x.middle → g s t ≡ true
+  middle_kept : (t : ℕ) → suc t ≡ place x.middle → g s t ≡ true
   middle_kept t d =
       let l = o.sorted.middle_lower (omega arith) in
       m.there t (omega arith) (λ n. not_middle (omega arith)) ∙ o.middle_is t d
 
-  rest : (t : ℕ) → t < tracks sh s → suc t ≢ e → suc t ≢ x.high → suc t ≢ x.middle → g s t ≡ false
+  rest : (t : ℕ) → t < tracks sh s → suc t ≢ place e → suc t ≢ place x.high → suc t ≢ place x.middle → g s t ≡ false
   rest t l a b c = m.there t l a ∙ o.others t l b c (omega (arith, no_low))
 
   -- It is the highest.
-  pub insert_high : x.high < e → ThreeOf sh g s (record { high = e; middle = x.high; low = x.middle })
+  pub insert_high : place x.high < place e → ThreeOf sh g s (record { high = e; middle = x.high; low = x.middle })
   insert_high h = record {
     within = m.within;
     sorted = record { middle_lower = λ l. h; low_lower = o.sorted.middle_lower };
@@ -93,7 +106,7 @@ module _ (sh : Shape) (s : TrackSet) (f g : TrackFlags) (x : Three) (e : ℕ) (s
   }
 
   -- It is the second.
-  pub insert_middle : e ≤ x.high → x.middle < e → ThreeOf sh g s (record { high = x.high; middle = e; low = x.middle })
+  pub insert_middle : place e ≤ place x.high → place x.middle < place e → ThreeOf sh g s (record { high = x.high; middle = e; low = x.middle })
   insert_middle n h = record {
     within = o.within;
     sorted = record { middle_lower = λ l. omega (arith, not_high); low_lower = λ l. h };
@@ -107,7 +120,7 @@ module _ (sh : Shape) (s : TrackSet) (f g : TrackFlags) (x : Three) (e : ℕ) (s
   }
 
   -- It is the third.
-  pub insert_low : e ≤ x.middle → ThreeOf sh g s (record { high = x.high; middle = x.middle; low = e })
+  pub insert_low : place e ≤ place x.middle → ThreeOf sh g s (record { high = x.high; middle = x.middle; low = e })
   insert_low n = record {
     within = o.within;
     sorted = record { middle_lower = o.sorted.middle_lower; low_lower = λ l. omega (arith, not_middle) };
@@ -119,3 +132,11 @@ module _ (sh : Shape) (s : TrackSet) (f g : TrackFlags) (x : Three) (e : ℕ) (s
     two = λ l. omega (arith, o.two l, count_more);
     three = λ l. omega (arith, o.two (omega arith), count_more);
   }
+
+-- No track more: after three there is none.
+pub insert_none : (x : Three) (e : Option ℕ) → place e ≤ place x.low → Inserted x e x
+insert_none x e h = record {
+  is = λ sh s f g m most o. by_cases (ℕ_discrete (place e) 0)
+      (λ z. three_same sh s f g x (λ t l. m.there t l (omega arith)) o)
+      (λ n. absurd (omega (arith, no_low sh s f g x e n m most o)));
+}

@@ -1,31 +1,35 @@
 // The flagged tracks of a record, sorted: each set's highest is its pivot, and the tracks below the pivots are at most two.
 #![tactic(auto)]
 
-ghost use Rattle.std.specs.Prelude.{◌≡◌, ◌<◌, ◌≤◌, length};
+ghost use Rattle.std.specs.Prelude.{◌≡◌, ◌≤◌, length};
 ghost use Rattle.code.specs.Image.{all_tracks};
 ghost use Rattle.code.specs.Flags.{flag_count};
-ghost use Rattle.code.specs.Sizes.{shape, Small};
-ghost use Rattle.syndrome.specs.Syndrome.{set_of};
+ghost use Rattle.code.specs.Sizes.{shape};
 ghost use Rattle.solver.specs.Solver.{marked};
-ghost use Rattle.plans.specs.Plans.{ThreeOf, Inserted, pivot_at, second_at, Sorted, Formed};
+ghost use Rattle.plans.specs.Plans.{
+  place,
+  ThreeOf,
+  Inserted,
+  pivot_at,
+  second_at,
+  Sorted,
+  Formed,
+};
 
-use code::Sizes;
+use code::{Sizes, TrackSet};
 
-// The flagged tracks of a set, the highest first: 0 for none, t + 1 for track t.
+// The flagged tracks of a set, three at the most, the highest first.
 #[derive(Clone, Copy)]
 pub struct Three {
-    pub high: usize,
-    pub middle: usize,
-    pub low: usize,
+    pub high: Option<usize>,
+    pub middle: Option<usize>,
+    pub low: Option<usize>,
 }
 
-// One flagged track more, where there is room for it; 0 for none.
-pub fn insert(x: Three, e: usize) -> Three
+// One flagged track more, where there is room for it, or none.
+pub fn insert(x: Three, e: Option<usize>) -> Three
     ensures { Inserted x e result }
 {
-    if e == 0 {
-        return x;
-    }
     if x.high < e {
         return Three {
             high: e,
@@ -40,34 +44,32 @@ pub fn insert(x: Three, e: usize) -> Three
             low: x.middle,
         };
     }
-    Three {
-        high: x.high,
-        middle: x.middle,
-        low: e,
+    if x.low < e {
+        return Three {
+            high: x.high,
+            middle: x.middle,
+            low: e,
+        };
     }
+    x
 }
 
 // The marked tracks of a set, three at the most.
-pub fn find_three(marks: &[u8], z: Sizes, s: usize) -> Three
-    requires small { Small z }
-    requires s_bound { s < 2 }
+pub fn find_three(marks: &[bool], z: Sizes, s: TrackSet) -> Three
     requires z_in_bounds { all_tracks (shape z) ≤ length marks.now }
-    requires s_bound_2 { flag_count (shape z) (marked (shape z) marks.now) (set_of s) ≤ 3 }
-    ensures { ThreeOf (shape z) (marked (shape z) marks.now) (set_of s) result }
+    requires s_bound_2 { flag_count (shape z) (marked (shape z) marks.now) s ≤ 3 }
+    ensures { ThreeOf (shape z) (marked (shape z) marks.now) s result }
 {
-    let first = syndrome::track_number(z, s, 0);
-    let count = syndrome::data_tracks(z, s) + 2;
+    let first = z.track_number(s, 0);
     let mut x = Three {
-        high: 0,
-        middle: 0,
-        low: 0,
+        high: None,
+        middle: None,
+        low: None,
     };
-    let mut t = 0;
-    while t < count {
-        if marks[first + t] == 1 {
-            x = insert(x, t + 1);
+    for t in 0..z.tracks(s) {
+        if marks[first + t] {
+            x = insert(x, Some(t));
         }
-        t += 1;
     }
     x
 }
@@ -79,151 +81,127 @@ pub struct Pivot {
     pub room: usize,
 }
 
-// The pivots of A and of B. Of the tracks below them v is in set s and, if there are two, u in set q.
+// Track t of a set.
+#[derive(Clone, Copy)]
+pub struct Track {
+    pub s: TrackSet,
+    pub t: usize,
+}
+
+// The flagged tracks below the pivots. Of two in one set v is the lower one; of one in each set it is in the set with fewer data tracks.
+#[derive(Clone, Copy)]
+pub enum Below {
+    None,
+    One(Track),
+    Two { v: Track, u: Track },
+}
+
+// The pivots of A and of B, and the tracks below them.
 #[derive(Clone, Copy)]
 pub struct Form {
     pub a: Pivot,
     pub b: Pivot,
-    pub below: usize,
-    pub s: usize,
-    pub v: usize,
-    pub q: usize,
-    pub u: usize,
+    pub below: Below,
 }
 
-// The pivot of a set whose highest flagged track is e - 1; the vertical track, where e is 0, and where the tail is open and e is 1.
-fn pivot_of(z: Sizes, s: usize, e: usize) -> Pivot
-    requires small { Small z }
-    requires s_bound { s < 2 }
-    ensures { result ≡ pivot_at (shape z) (set_of s) e }
-{
-    let count = syndrome::data_tracks(z, s);
-    if e == 0 {
-        return Pivot {
-            track: count + 1,
-            room: 0,
-        };
-    }
-    if e == 1 {
-        if z.closed {
-            return Pivot {
-                track: 0,
-                room: z.positions + (z.t1 + z.t2 + 1),
-            };
+impl Form {
+    ghost use Rattle.plans.specs.Plans.{pivot, room};
+
+    // The pivot of a set.
+    pub fn pivot(self, s: TrackSet) -> Pivot
+        ensures track { result.track ≡ pivot self s }
+        ensures room { result.room ≡ room self s }
+    {
+        match s {
+            TrackSet::A => self.a,
+            TrackSet::B => self.b,
         }
-        return Pivot {
-            track: count + 1,
-            room: 0,
-        };
     }
-    if e - 2 < count {
-        return Pivot {
-            track: e - 1,
+}
+
+// The pivot of a set with this highest flagged track; the vertical track, where there is none, and where the tail is open and it is track 0.
+fn pivot_of(z: Sizes, s: TrackSet, e: Option<usize>) -> Pivot
+    ensures { result ≡ pivot_at (shape z) s (place e) }
+{
+    let count = z.data_tracks(s);
+    let none = Pivot {
+        track: count + 1,
+        room: 0,
+    };
+    match e {
+        None => none,
+        Some(0) if !z.closed => none,
+        Some(0) => Pivot {
+            track: 0,
+            room: z.track_length(),
+        },
+        Some(t) if t <= count => Pivot {
+            track: t,
             room: z.positions,
-        };
-    }
-    Pivot {
-        track: e - 1,
-        room: syndrome::vertical_end(z),
+        },
+        Some(t) => Pivot {
+            track: t,
+            room: z.vertical_end(),
+        },
     }
 }
 
-// The highest track below a set's pivot: 0 for none, t + 1 for track t.
-fn second_of(z: Sizes, x: Three) -> usize
-    ensures { result ≡ second_at (shape z).closing x.high x.middle }
+// The highest track below a set's pivot.
+fn second_of(z: Sizes, x: Three) -> Option<usize>
+    ensures { place result ≡ second_at (shape z).closing (place x.high) (place x.middle) }
 {
-    if x.high == 1 {
-        if !z.closed {
-            return 1;
-        }
+    match x.high {
+        Some(0) if !z.closed => x.high,
+        _ => x.middle,
     }
-    x.middle
 }
 
 // The form of the flagged tracks x of A and y of B.
 pub fn form_of(z: Sizes, x: Three, y: Three) -> Form
-    requires small { Small z }
     requires sorted { Sorted x }
     requires sorted_2 { Sorted y }
     ensures { Formed z x y result }
 {
-    let a = pivot_of(z, 0, x.high);
-    let b = pivot_of(z, 1, y.high);
-    if x.low != 0 {
-        return Form {
-            a,
-            b,
-            below: 2,
-            s: 0,
-            v: x.low - 1,
-            q: 0,
-            u: x.middle - 1,
+    let a = pivot_of(z, TrackSet::A, x.high);
+    let b = pivot_of(z, TrackSet::B, y.high);
+    // A lowest track has a middle one above it.
+    if let Some(v) = x.low {
+        let s = TrackSet::A;
+        let u = x.middle.unwrap();
+        let below = Below::Two {
+            v: Track { s, t: v },
+            u: Track { s, t: u },
         };
+        return Form { a, b, below };
     }
-    if y.low != 0 {
-        return Form {
-            a,
-            b,
-            below: 2,
-            s: 1,
-            v: y.low - 1,
-            q: 1,
-            u: y.middle - 1,
+    if let Some(v) = y.low {
+        let s = TrackSet::B;
+        let u = y.middle.unwrap();
+        let below = Below::Two {
+            v: Track { s, t: v },
+            u: Track { s, t: u },
         };
+        return Form { a, b, below };
     }
-    let i = second_of(z, x);
-    let j = second_of(z, y);
-    if i == 0 {
-        if j == 0 {
-            return Form {
-                a,
-                b,
-                below: 0,
-                s: 0,
-                v: 0,
-                q: 0,
-                u: 0,
+    let below = match (second_of(z, x), second_of(z, y)) {
+        (None, None) => Below::None,
+        (None, Some(t)) => Below::One(Track { s: TrackSet::B, t }),
+        (Some(t), None) => Below::One(Track { s: TrackSet::A, t }),
+        (Some(i), Some(j)) => {
+            let i = Track {
+                s: TrackSet::A,
+                t: i,
             };
+            let j = Track {
+                s: TrackSet::B,
+                t: j,
+            };
+            if z.t2 < z.t1 {
+                Below::Two { v: j, u: i }
+            } else {
+                Below::Two { v: i, u: j }
+            }
         }
-        return Form {
-            a,
-            b,
-            below: 1,
-            s: 1,
-            v: j - 1,
-            q: 0,
-            u: 0,
-        };
-    }
-    if j == 0 {
-        return Form {
-            a,
-            b,
-            below: 1,
-            s: 0,
-            v: i - 1,
-            q: 0,
-            u: 0,
-        };
-    }
-    if z.t2 < z.t1 {
-        return Form {
-            a,
-            b,
-            below: 2,
-            s: 1,
-            v: j - 1,
-            q: 0,
-            u: i - 1,
-        };
-    }
-    Form {
-        a,
-        b,
-        below: 2,
-        s: 0,
-        v: i - 1,
-        q: 1,
-        u: j - 1,
-    }
+    };
+    Form { a, b, below }
 }

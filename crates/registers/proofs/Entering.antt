@@ -7,11 +7,12 @@ use native.Mathlib.Decide.{dec_lt}
 use native.Mathlib.Omega.{arith}
 use borrow.Author.Tests.{lt-ltb, le-ltb}
 use lib.ListN.{get_or}
-use lib.Pow.{shr_le}
-use Rattle.code.specs.Record.{TrackSet, A, B, other, Shape, data_tracks, lag, track_length, Cells}
+use Rattle.code.specs.Record.{other, Shape, data_tracks, lag, Cells}
+use Rattle.code.specs.declared.sizes.TrackSet.{TrackSet}
+use Rattle.code.specs.declared.sizes.TrackSet.TheVariants.{A, B}
 use Rattle.code.specs.Payload.{digits, payload_index}
 use Rattle.code.proofs.Digits.{digits_inj, digits_digit, digits_lt}
-use Rattle.registers.specs.declared.Column.{Column}
+use Rattle.registers.specs.declared.Registers.{Registers}
 use Rattle.registers.specs.Places.{BitsAt}
 use Rattle.registers.specs.Register.{of_set, Enter, BitsTo}
 use Rattle.registers.specs.Steps.{Sevens, DataOf, first_byte, SevenAt, Ordered, BlockBytes, CellsOf}
@@ -35,7 +36,7 @@ ordered_bytes payload at a b places_a places_b p q u v = record { own = own; acr
     across B k h = v.then k h ∙ p.byte_at (6 - k) (omega arith) ∙ index _ _ (omega arith)
 
 -- The bits of both sets' places.
-pub both_bits_at : (bytes : Column) (k : ℕ) (a b : List ℕ) → BitsAt bytes.a k a → BitsAt bytes.b k b → CellsOf bytes k (record { a = a; b = b })
+pub both_bits_at : (bytes : Registers) (k : ℕ) (a b : List ℕ) → BitsAt bytes.a k a → BitsAt bytes.b k b → CellsOf bytes k (record { a = a; b = b })
 both_bits_at bytes k a b p q = record { bits_at = go }
   where
     go : (s : TrackSet) → BitsAt (of_set s bytes.a bytes.b) k (of_set s a b)
@@ -43,7 +44,7 @@ both_bits_at bytes k a b p q = record { bits_at = go }
     go B = q
 
 -- The cells are bits.
-pub cells_bits : (bytes : Column) (k : ℕ) (cells : Column) → CellsOf bytes k cells → BitsTo 14 cells.a cells.b
+pub cells_bits : (bytes : Registers) (k : ℕ) (cells : Registers) → CellsOf bytes k cells → BitsTo 14 cells.a cells.b
 cells_bits bytes k cells c = record { bit = λ s i h. omega (arith, (c.bits_at s).place i (omega arith)) }
 
 -- ## What that is in a record
@@ -75,7 +76,7 @@ module _ (sh : Shape) (n : ℕ) (payload : List ℕ) (x : Cells) (sevens : Seven
       (d.carries.byte b s c h (omega arith)) i e)
 
   -- What enters in order: the set's own tracks, then the other's.
-  enter_by : (m : ℕ) (c : Column) →
+  enter_by : (m : ℕ) (c : Registers) →
       ((s : TrackSet) (k : ℕ) → k < 7 → get_or (of_set s c.a c.b) k 0 ≡ x s (suc k) m) →
       ((s : TrackSet) (k : ℕ) → k < 7 → get_or (of_set s c.a c.b) (7 + k) 0 ≡ x (other s) (suc (6 - k)) m) →
       Enter sh x m c
@@ -91,16 +92,7 @@ module _ (sh : Shape) (n : ℕ) (payload : List ℕ) (x : Cells) (sevens : Seven
   }
 
   -- Position j of block b: bit 7 - j of its bytes.
-  pub enter_data : (b j k m : ℕ) (bytes cells : Column) → b < n → j < 8 → k + suc j ≡ 8 → 8 * b + j ≡ m → BlockBytes payload (14 * b) bytes → CellsOf bytes k cells → Enter sh x m cells
+  pub enter_data : (b j k m : ℕ) (bytes cells : Registers) → b < n → j < 8 → k + suc j ≡ 8 → 8 * b + j ≡ m → BlockBytes payload (14 * b) bytes → CellsOf bytes k cells → Enter sh x m cells
   enter_data b j k m bytes cells h i e f p q = rw (sym f) (enter_by (8 * b + j) cells
       (λ s c l. (q.bits_at s).place c (omega arith) ∙ rw (p.own s c l) (data_cell b j k h i e s c l))
       (λ s c l. (q.bits_at s).place (7 + c) (omega arith) ∙ rw (p.across s c l) (data_cell b j k h i e (other s) (6 - c) (omega arith))))
-
-  -- A position of the tail: nothing.
-  pub enter_tail : (m k : ℕ) (bytes cells : Column) → 8 * n ≤ m → m < track_length sh → ((s : TrackSet) (i : ℕ) → i < 15 → get_or (of_set s bytes.a bytes.b) i 0 ≡ 0) → CellsOf bytes k cells → Enter sh x m cells
-  enter_tail m k bytes cells h l none q = enter_by m cells
-      (λ s c g. zero_at s c (omega arith) ∙ sym (d.tail s (suc c) m (omega arith) (omega (arith, tracks_seven s)) (omega (arith, sevens.blocks)) l))
-      (λ s c g. zero_at s (7 + c) (omega arith) ∙ sym (d.tail (other s) (suc (6 - c)) m (omega arith) (omega (arith, tracks_seven (other s))) (omega (arith, sevens.blocks)) l))
-    where
-      zero_at : (s : TrackSet) (i : ℕ) → i < 15 → get_or (of_set s cells.a cells.b) i 0 ≡ 0
-      zero_at s i g = (q.bits_at s).place i g ∙ rw (none s i g) (omega (arith, shr_le 0 k))

@@ -9,12 +9,13 @@ use borrow.Author.Tests.{lt-ltb, le-ltb}
 use lib.Bits.{xor_lt}
 use lib.ListN.{length, get_or, set}
 use lib.Seq.{get_or-set_same, get_or-set_other}
-use Rattle.code.specs.Record.{TrackSet, A, B, other, Shape, data_tracks, lag, Cells, diagonal}
+use Rattle.code.specs.Record.{other, Shape, data_tracks, lag, Cells, diagonal}
+use Rattle.code.specs.declared.sizes.TrackSet.{TrackSet}
+use Rattle.code.specs.declared.sizes.TrackSet.TheVariants.{A, B}
 use Rattle.code.proofs.Cell.{lag_sets}
 use Rattle.code.proofs.Sums.{sum_zero, back_zero, shifted_same, shifted_but_one}
 use Rattle.code.proofs.Digits.{xor_bits}
 use Rattle.registers.specs.declared.Registers.{Registers}
-use Rattle.registers.specs.declared.Column.{Column}
 use Rattle.registers.specs.Places.{Shifted}
 use Rattle.registers.specs.Register.{cells_before, Register, of_set, Hold, entering, Enter, Heads, BitsTo, Stepped}
 
@@ -91,16 +92,23 @@ module _ (sh : Shape) (x : Cells) (s : TrackSet) (m : ℕ) where
     sum_zero (suc O) _ (λ t l. back_zero (cells_before m x (other s) t) (m + lag sh) (lag sh - t) (λ q e. before_none x (other s) t q m (omega (arith, lag_sets sh s)))),
   )
 
-  -- Of the diagonal at m only track 0 at m is not before m.
-  pub but_check : diagonal sh x s m ≡ diagonal sh (cells_before m x) s m + x s 0 m
+  -- A cell that is 0 from position m on is the cell before m.
+  same_before : (o : TrackSet) (t q : ℕ) → (m ≤ q → x o t q ≡ 0) → x o t q ≡ cells_before m x o t q
+  same_before o t q h = by_cases (dec_lt q m)
+      (λ l. sym (before_is x o t q m l))
+      (λ l. h (omega arith) ∙ sym (before_none x o t q m (omega arith)))
+
+  -- Of the diagonal at d only track 0 at d is not before m, where the data tracks are 0 from m on.
+  pub but_check : (d : ℕ) → m ≤ d → d < m + lag sh → ((o : TrackSet) (t q : ℕ) → 1 ≤ t → t ≤ data_tracks sh o → m ≤ q → q < d → x o t q ≡ 0) →
+      diagonal sh x s d ≡ diagonal sh (cells_before m x) s d + x s 0 d
   unfolding diagonal
-  but_check = omega (
+  but_check d from below none = omega (
     arith,
-    before_none x s 0 m m (omega arith),
-    shifted_but_one (suc T) (x s) (cells_before m x s) (λ t. t) m 0 m (omega arith) (omega arith)
-        (λ t q l f i. sym (before_is x s t q m (omega arith))),
-    shifted_same (suc O) (x (other s)) (cells_before m x (other s)) (λ t. lag sh - t) m
-        (λ t q l i. sym (before_is x (other s) t q m (omega (arith, lag_sets sh s)))),
+    before_none x s 0 d m from,
+    shifted_but_one (suc T) (x s) (cells_before m x s) (λ t. t) d 0 d (omega arith) (omega arith)
+        (λ t q l f i. same_before s t q (λ h. none s t q (omega arith) (omega arith) h (omega arith))),
+    shifted_same (suc O) (x (other s)) (cells_before m x (other s)) (λ t. lag sh - t) d
+        (λ t q l i. same_before (other s) t q (λ h. none (other s) t q (omega (arith, lag_sets sh s)) (omega arith) h (omega (arith, lag_sets sh s)))),
   )
 
 -- Before any position has passed all is 0.
@@ -152,7 +160,7 @@ bits_next r o c next mine head bit room shifted k h = by_cases (ℕ_discrete k 1
     (λ d. rw (shifted.place k (omega arith), get_or-set_other c 14 k (get_or o 0 0) 0 d) (xor_lt 1 _ _ (mine (suc k) (omega arith)) (bit k (omega arith))))
 
 -- Both registers.
-module _ (r : Registers) (c : Column) (a b : List ℕ) (room_a : 14 < length c.a) (room_b : 14 < length c.b)
+module _ (r : Registers) (c : Registers) (a b : List ℕ) (room_a : 14 < length c.a) (room_b : 14 < length c.b)
     (p : Shifted r.a (set c.a 14 (get_or r.b 0 0)) a) (q : Shifted r.b (set c.b 14 (get_or r.a 0 0)) b) where
   registers_next : (sh : Shape) (x : Cells) (m : ℕ) → lag sh ≡ 15 → BitsTo 14 c.a c.b → Hold sh x m r → Enter sh x m c → Heads x m r →
       (s : TrackSet) → Register sh x s (suc m) (of_set s a b)

@@ -3,23 +3,26 @@ use mathlib.Core.Path.{◌≡◌, sym, ◌∙◌}
 use mathlib.Core.Logic.{◌≢◌, by_cases}
 use mathlib.Core.List.{List}
 use Prim.Native.Nat.{ℕ, suc, ◌+◌, ◌*◌, ◌-◌, ◌%◌, ◌<◌, ◌≤◌}
-use native.Mathlib.Decide.{ℕ_discrete}
+use native.Mathlib.Decide.{dec_lt, ℕ_discrete}
 use native.Mathlib.Nat.{add-zero}
 use native.Mathlib.Omega.{arith}
-use lib.ListN.{length, get_or, replicate, get_or-replicate}
+use borrow.Rule.Slice.PartMut.{put_mid, mid_len, same_len_mid}
+use lib.ListN.{length, get_or, take, drop, replicate, get_or-replicate}
 use lib.Seq.{get_or-set_same, get_or-set_other}
-use Rattle.code.specs.Record.{TrackSet, A, B, Shape, track_length, Cells, diagonal}
+use Rattle.code.specs.Record.{Shape, track_length, Cells, diagonal}
+use Rattle.code.specs.declared.sizes.TrackSet.{TrackSet}
+use Rattle.code.specs.declared.sizes.TrackSet.TheVariants.{A, B}
 use Rattle.track.specs.Track.{Bits}
 use Rattle.track.proofs.Cells.{every}
+use Rattle.track.proofs.Parts.{put_before, put_in}
 use Rattle.registers.specs.declared.Registers.{Registers}
-use Rattle.registers.specs.declared.Column.{Column}
 use Rattle.registers.specs.Register.{of_set, Hold, Enter, BitsTo}
-use Rattle.registers.specs.Steps.{Sevens, DataOf, ChecksOf, BlockBytes, Passed, Passing, Zeros, TwoPassed, Carried, TailPassed}
+use Rattle.registers.specs.Steps.{Sevens, DataOf, ChecksOf, BlockBytes, Passed, Passing, TwoPassed, Carried}
 use Rattle.registers.proofs.Passing.{but_check, at_start}
-use Rattle.registers.proofs.Entering.{cells_bits, enter_data, enter_tail}
+use Rattle.registers.proofs.Entering.{cells_bits, enter_data}
 
 -- One more position has passed.
-module _ (n : ℕ) (payload : List ℕ) (m k : ℕ) (r : Registers) (bytes : Column) (a b after_a after_b : List ℕ) (next : Registers)
+module _ (n : ℕ) (payload : List ℕ) (m k : ℕ) (r : Registers) (bytes : Registers) (a b after_a after_b : List ℕ) (next : Registers)
     (p : Passing n payload m a b r) (q : Passed m k r bytes a b after_a after_b next) (room_a : m < length a) (room_b : m < length b)
     (enter : (sh : Shape) (x : Cells) → Sevens sh n → DataOf sh n payload x → Enter sh x m q.cells) where
   -- The heads are written at m, and the rest stays.
@@ -50,7 +53,7 @@ module _ (n : ℕ) (payload : List ℕ) (m k : ℕ) (r : Registers) (bytes : Col
 
     next_even : (s : TrackSet) (i : ℕ) → i < suc m → diagonal sh x s i % 2 ≡ 0
     next_even s i h = by_cases (ℕ_discrete i m)
-        (λ e. rw e (omega (arith, but_check sh x s m, head s, rw add-zero at ((held.register s).place 0 (omega arith)))))
+        (λ e. rw e (omega (arith, but_check sh x s m m (omega arith) (omega (arith, sevens.t1_seven, sevens.t2_seven)) (λ o t q l g f i. absurd (omega arith)), head s, rw add-zero at ((held.register s).place 0 (omega arith)))))
         (λ f. p.even sh x sevens d checks_before s i (omega arith))
 
   next_bit : (s : TrackSet) (i : ℕ) → i < suc m → get_or (of_set s after_a after_b) i 0 < 2
@@ -66,15 +69,8 @@ module _ (n : ℕ) (payload : List ℕ) (m k : ℕ) (r : Registers) (bytes : Col
     even = next_even;
   })
 
--- A position of the tail.
-passing_tail : (n : ℕ) (payload : List ℕ) (m k i : ℕ) (r : Registers) (bytes : Column) (a b after_a after_b : List ℕ) (next : Registers) → Zeros bytes →
-    8 * n ≤ m → m < 8 * n + 15 → suc m ≡ i → m < length a → m < length b →
-    Passing n payload m a b r → Passed m k r bytes a b after_a after_b next → Passing n payload i after_a after_b next
-passing_tail n payload m k i r bytes a b after_a after_b next zeros h l after room_a room_b s q = passing_more n payload m k r bytes a b after_a after_b next s q room_a room_b
-    (λ sh x sevens d. enter_tail sh n payload x sevens d m k bytes q.cells h (omega (arith, sevens.t1_seven, sevens.t2_seven, sevens.blocks)) zeros.zero q.taken) i after
-
--- Two positions of a block, or of the tail.
-pub two_passed : (m k : ℕ) (r : Registers) (bytes : Column) (a b a' b' after_a after_b : List ℕ) (r' next : Registers) → m + 2 ≤ length a → m + 2 ≤ length b → k < 7 →
+-- Two positions of a block.
+pub two_passed : (m k : ℕ) (r : Registers) (bytes : Registers) (a b a' b' after_a after_b : List ℕ) (r' next : Registers) → m + 2 ≤ length a → m + 2 ≤ length b → k < 7 →
     length a' ≡ length a → length b' ≡ length b →
     Passed m (k + 1) r bytes a b a' b' r' → Passed (m + 1) k r' bytes a' b' after_a after_b next → TwoPassed m k r bytes a b after_a after_b next
 two_passed m k r bytes a b a' b' after_a after_b r' next room_a room_b low size_a size_b p q = record {
@@ -83,32 +79,26 @@ two_passed m k r bytes a b a' b' after_a after_b r' next room_a room_b low size_
       (λ sh x sevens d. enter_data sh n payload x sevens d block (m - 8 * block) (k + 1) m bytes p.cells has (omega arith) (omega arith) (omega arith) bs p.taken) (m + 1) (omega arith) in
       passing_more n payload (m + 1) k r' bytes a' b' after_a after_b next one q (omega arith) (omega arith)
       (λ sh x sevens d. enter_data sh n payload x sevens d block (m + 1 - 8 * block) k (m + 1) bytes q.cells has (omega arith) (omega arith) (omega arith) bs q.taken) (m + 2) (omega arith);
-  tail = λ n payload zeros h l s.
-      let one = passing_tail n payload m (k + 1) (m + 1) r bytes a b a' b' r' zeros h (omega arith) (omega arith) (omega arith) (omega arith) s p in
-      passing_tail n payload (m + 1) k (m + 2) r' bytes a' b' after_a after_b next zeros (omega arith) (omega arith) (omega arith) (omega arith) (omega arith) one q;
 }
 
 -- The eight positions of a block.
-pub block_passed : (n : ℕ) (payload : List ℕ) (block : ℕ) (bytes : Column) (r r2 r4 r6 r8 : Registers) (a a2 a4 a6 a8 b b2 b4 b6 b8 : List ℕ) → block < n → BlockBytes payload (14 * block) bytes →
+pub block_passed : (n : ℕ) (payload : List ℕ) (block : ℕ) (bytes : Registers) (r r2 r4 r6 r8 : Registers) (a a2 a4 a6 a8 b b2 b4 b6 b8 : List ℕ) → block < n → BlockBytes payload (14 * block) bytes →
     Passing n payload (8 * block) a b r → TwoPassed (8 * block) 6 r bytes a b a2 b2 r2 → TwoPassed (8 * block + 2) 4 r2 bytes a2 b2 a4 b4 r4 →
-    TwoPassed (8 * block + 4) 2 r4 bytes a4 b4 a6 b6 r6 → TwoPassed (8 * block + 6) 0 r6 bytes a6 b6 a8 b8 r8 → Passing n payload (8 * block + 8) a8 b8 r8
+    TwoPassed (8 * block + 4) 2 r4 bytes a4 b4 a6 b6 r6 → TwoPassed (8 * block + 6) 0 r6 bytes a6 b6 a8 b8 r8 → Passing n payload (8 * (block + 1)) a8 b8 r8
 block_passed n payload block bytes r r2 r4 r6 r8 a a2 a4 a6 a8 b b2 b4 b6 b8 has bs s p q u v =
     let m = 8 * block in
     let to4 : m + 2 + 2 ≡ m + 4 = omega arith in
     let to6 : m + 4 + 2 ≡ m + 6 = omega arith in
-    let to8 : m + 6 + 2 ≡ m + 8 = omega arith in
+    let to8 : m + 6 + 2 ≡ 8 * (block + 1) = omega arith in
     let s2 = p.passing n payload block has (omega arith) bs s in
     let s4 = rw to4 at (q.passing n payload block has (omega arith) bs s2) in
     let s6 = rw to6 at (u.passing n payload block has (omega arith) bs s4) in
     rw to8 at (v.passing n payload block has (omega arith) bs s6)
 
--- A column of 0, and registers of 0.
+-- Registers of 0.
 none : (s : TrackSet) (i : ℕ) → i < 15 → get_or (of_set s (replicate 15 0) (replicate 15 0)) i 0 ≡ 0
 none A i h = get_or-replicate 15 i 0 0 h
 none B i h = get_or-replicate 15 i 0 0 h
-
-zeros : Zeros (record { a = replicate 15 0; b = replicate 15 0 })
-zeros = record { zero = none }
 
 -- No position has passed.
 pub passing_none : (n : ℕ) (payload a b : List ℕ) → Passing n payload 0 a b (record { a = replicate 15 0; b = replicate 15 0 })
@@ -119,44 +109,74 @@ passing_none n payload a b = record {
   even = λ sh x sevens d c s q h. absurd (omega arith);
 }
 
--- All positions have passed.
-carried : (n : ℕ) (payload a b : List ℕ) (r : Registers) → length a ≡ 8 * n + 15 → length b ≡ 8 * n + 15 → Passing n payload (8 * n + 15) a b r → Carried n payload a b
-carried n payload a b r size_a size_b p = record {
-  bits = bits;
-  even = λ sh x sevens d c s m h.
-      let l : track_length sh ≡ 8 * n + 15 = omega (arith, sevens.t1_seven, sevens.t2_seven, sevens.blocks) in
-      p.even sh x sevens d (rw l at c) s m (omega arith);
-}
-  where
-    bits : (s : TrackSet) → Bits (of_set s a b)
-    bits A = record { bit = every (λ v. v < 2) a (omega arith) (λ i h. p.tracks.bit A i (omega arith)) }
-    bits B = record { bit = every (λ v. v < 2) b (omega arith) (λ i h. p.tracks.bit B i (omega arith)) }
-
 -- ## The tail
 
--- The positions before m have passed, if those before the tail had. The stretches keep their length.
-pub record TailTo (n : ℕ) (a₀ b₀ : List ℕ) (first : Registers) (m : ℕ) (a b : List ℕ) (r : Registers) : Type 0 where
-  pub small : n ≤ 256
-  pub from : 8 * n ≤ m
-  pub size_a : length a ≡ 8 * n + 15
-  pub size_b : length b ≡ 8 * n + 15
-  pub passing : (payload : List ℕ) → Passing n payload (8 * n) a₀ b₀ first → Passing n payload m a b r
+-- A stretch whose tail is put.
+module _ (n : ℕ) (xs ys : List ℕ) (size : length xs ≡ 8 * n + 15) (few : length ys ≡ length (take (length xs - 8 * n) (drop (8 * n) xs))) where
+  abbrev put : List ℕ
+  put = put_mid (8 * n) (length xs - 8 * n) xs ys
 
--- Two more, and the last.
-module _ (n : ℕ) (a₀ b₀ : List ℕ) (first : Registers) (m : ℕ) (a b : List ℕ) (r : Registers) (t : TailTo n a₀ b₀ first m a b r)
-    (after_a after_b : List ℕ) (next : Registers) (size_a : length after_a ≡ length a) (size_b : length after_b ≡ length b) where
-  pub two_more : (i : ℕ) → m + 2 ≡ i → i ≤ 8 * n + 15 → TwoPassed m 0 r (record { a = replicate 15 0; b = replicate 15 0 }) a b after_a after_b next →
-      TailTo n a₀ b₀ first i after_a after_b next
-  two_more i e h q = rw (sym e) (record {
-    small = t.small;
-    from = omega (arith, t.from);
-    size_a = size_a ∙ t.size_a;
-    size_b = size_b ∙ t.size_b;
-    passing = λ payload s. q.tail n payload zeros t.from (omega arith) (t.passing payload s);
-  })
+  put_size : length put ≡ 8 * n + 15
+  put_size = same_len_mid (8 * n) (length xs - 8 * n) xs ys few ∙ size
 
-  pub last_one : m + 1 ≡ 8 * n + 15 → Passed m 0 r (record { a = replicate 15 0; b = replicate 15 0 }) a b after_a after_b next → TailPassed n first a₀ b₀ after_a after_b
-  last_one e q = record {
-    carried = λ payload s. carried n payload after_a after_b next (size_a ∙ t.size_a) (size_b ∙ t.size_b)
-        (passing_tail n payload m 0 (8 * n + 15) r _ a b after_a after_b next zeros t.from (omega arith) (omega arith) (omega (arith, t.size_a)) (omega (arith, t.size_b)) (t.passing payload s) q);
-  }
+  fifteen : length ys ≡ 8 * n + 15 - 8 * n
+  fifteen = omega (arith, few, mid_len (8 * n) (length xs) xs (omega arith), size)
+
+  put_stays : (q : ℕ) → q < 8 * n → get_or put q 0 ≡ get_or xs q 0
+  put_stays q h = rw size (put_before xs ys (8 * n) 15 (omega arith) fifteen q h)
+
+  put_tail : (k : ℕ) → k < 15 → get_or put (8 * n + k) 0 ≡ get_or ys k 0
+  put_tail k h = rw size (put_in xs ys (8 * n) 15 (omega arith) fifteen k h)
+
+-- Tracks 0 of the tail are the places.
+module _ (n : ℕ) (payload : List ℕ) (r : Registers) (a b after_a after_b : List ℕ) (p : Passing n payload (8 * n) a b r)
+    (size_a : length after_a ≡ 8 * n + 15) (size_b : length after_b ≡ 8 * n + 15)
+    (stays : (s : TrackSet) (q : ℕ) → q < 8 * n → get_or (of_set s after_a after_b) q 0 ≡ get_or (of_set s a b) q 0)
+    (put : (s : TrackSet) (k : ℕ) → k < 15 → get_or (of_set s after_a after_b) (8 * n + k) 0 ≡ get_or (of_set s r.a r.b) k 0) where
+  bit : (s : TrackSet) (i : ℕ) → i < 8 * n + 15 → get_or (of_set s after_a after_b) i 0 < 2
+  bit s i h = by_cases (dec_lt i (8 * n))
+      (λ l. rw (stays s i l) (p.tracks.bit s i l))
+      (λ l. let e : 8 * n + (i - 8 * n) ≡ i = omega arith in
+      let there : get_or (of_set s after_a after_b) (8 * n + (i - 8 * n)) 0 < 2 = rw (put s (i - 8 * n) (omega arith)) (p.registers.bit s (i - 8 * n) (omega arith)) in
+      rw e at there)
+
+  all_bits : (s : TrackSet) → Bits (of_set s after_a after_b)
+  all_bits A = record { bit = every (λ v. v < 2) after_a (omega arith) (λ i h. bit A i (omega arith)) }
+  all_bits B = record { bit = every (λ v. v < 2) after_b (omega arith) (λ i h. bit B i (omega arith)) }
+
+  module _ (sh : Shape) (x : Cells) (sevens : Sevens sh n) (d : DataOf sh n payload x) (c : ChecksOf (track_length sh) after_a after_b x) where
+    abbrev whole : track_length sh ≡ 8 * n + 15
+    whole = omega (arith, sevens.t1_seven, sevens.t2_seven, sevens.blocks)
+
+    before : ChecksOf (8 * n) a b x
+    before = record { cell = λ s q h. c.cell s q (omega (arith, whole)) ∙ stays s q h }
+
+    even_at : (s : TrackSet) (k : ℕ) → k < 15 → diagonal sh x s (8 * n + k) % 2 ≡ 0
+    even_at s k h = omega (
+      arith,
+      but_check sh x s (8 * n) (8 * n + k) (omega arith) (omega (arith, sevens.t1_seven, sevens.t2_seven))
+          (λ o t q l g f i. d.tail o t q l g (omega (arith, sevens.blocks)) (omega (arith, whole))),
+      c.cell s (8 * n + k) (omega (arith, whole)) ∙ put s k h,
+      ((p.hold sh x sevens d before).register s).place k (omega (arith, sevens.t1_seven, sevens.t2_seven)),
+    )
+
+    even : (s : TrackSet) (m : ℕ) → m < track_length sh → diagonal sh x s m % 2 ≡ 0
+    even s m h = by_cases (dec_lt m (8 * n))
+        (p.even sh x sevens d before s m)
+        (λ l. let e : 8 * n + (m - 8 * n) ≡ m = omega arith in rw e at (even_at s (m - 8 * n) (omega (arith, whole))))
+
+  carried : Carried n payload after_a after_b
+  carried = record { bits = all_bits; even = even }
+
+pub tail_passed : (n : ℕ) (payload : List ℕ) (r : Registers) (a b ys zs : List ℕ) → length a ≡ 8 * n + 15 → length b ≡ 8 * n + 15 →
+    length ys ≡ length (take (length a - 8 * n) (drop (8 * n) a)) → length zs ≡ length (take (length b - 8 * n) (drop (8 * n) b)) → ys ≡ r.a → zs ≡ r.b →
+    Passing n payload (8 * n) a b r → Carried n payload (put_mid (8 * n) (length a - 8 * n) a ys) (put_mid (8 * n) (length b - 8 * n) b zs)
+tail_passed n payload r a b ys zs size_a size_b few_a few_b is_a is_b p = carried n payload r a b _ _ p (put_size n a ys size_a few_a) (put_size n b zs size_b few_b) stays tail
+  where
+    stays : (s : TrackSet) (q : ℕ) → q < 8 * n → get_or (of_set s (put n a ys size_a few_a) (put n b zs size_b few_b)) q 0 ≡ get_or (of_set s a b) q 0
+    stays A = put_stays n a ys size_a few_a
+    stays B = put_stays n b zs size_b few_b
+
+    tail : (s : TrackSet) (k : ℕ) → k < 15 → get_or (of_set s (put n a ys size_a few_a) (put n b zs size_b few_b)) (8 * n + k) 0 ≡ get_or (of_set s r.a r.b) k 0
+    tail A k h = put_tail n a ys size_a few_a k h ∙ rw is_a
+    tail B k h = put_tail n b zs size_b few_b k h ∙ rw is_b

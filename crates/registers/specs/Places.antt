@@ -10,18 +10,15 @@ byte w k = w / 2 ^ (8 * k) % 2 ^ 8
 pub record Word (bytes : List ℕ) (w : ℕ) : Type 0 where
   pub byte_is : (k : ℕ) → k < 8 → byte w k ≡ get_or bytes k 0
 
--- A word's bytes are places 0 to 7, or places 8 to 14 and a 0.
-pub record Low (r : List ℕ) (w : ℕ) : Type 0 where
-  pub place : (k : ℕ) → k < 8 → byte w k ≡ get_or r k 0
-
-pub record High (r : List ℕ) (w : ℕ) : Type 0 where
-  pub place : (k : ℕ) → k < 7 → byte w k ≡ get_or r (8 + k) 0
-  pub rest : byte w 7 ≡ 0
-
--- The places are the words' bytes.
+-- The places are the words' bytes: 0 to 7 of the first, 8 to 14 of the second.
 pub record Places (x y : ℕ) (r : List ℕ) : Type 0 where
   pub low : (k : ℕ) → k < 8 → get_or r k 0 ≡ byte x k
   pub high : (k : ℕ) → k < 7 → get_or r (8 + k) 0 ≡ byte y k
+
+-- Two words have these places, and a 0 behind them.
+pub record Words (r : List ℕ) (x y : ℕ) : Type 0 where
+  pub places : Places x y r
+  pub rest : byte y 7 ≡ 0
 
 -- Each place is the next one of `r` with a cell added, and the last is its cell alone.
 pub record Shifted (r cells next : List ℕ) : Type 0 where

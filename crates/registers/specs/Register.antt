@@ -1,9 +1,10 @@
 -- Document 02, note 4: the encoder's registers of partial sums, one for each set. The source's figure 4 shows one.
 use Rattle.std.specs.Prelude.{◌≡◌, List, ℕ, suc, ◌+◌, ◌-◌, ◌%◌, ◌<◌, ltb, get_or}
-use Rattle.code.specs.Record.{TrackSet, A, B, other, Shape, data_tracks, lag, Cells, diagonal}
+use Rattle.code.specs.Record.{other, Shape, data_tracks, lag, Cells, diagonal}
+use Rattle.code.specs.declared.sizes.TrackSet.{TrackSet}
+use Rattle.code.specs.declared.sizes.TrackSet.TheVariants.{A, B}
 use Rattle.code.specs.Reach.{pick}
 use Rattle.registers.specs.declared.Registers.{Registers}
-use Rattle.registers.specs.declared.Column.{Column}
 
 -- The cells before position m; all others count as 0.
 unfoldable pub cells_before : ℕ → Cells → Cells
@@ -29,7 +30,7 @@ abbrev pub entering : Shape → Cells → TrackSet → ℕ → ℕ → ℕ
 entering sh x s m k = pick (ltb k (data_tracks sh s)) (x s (suc k) m) (x (other s) (lag sh - suc k) m)
 
 -- A column has these cells of position m for both registers, all but track 0, which goes to the last place.
-pub record Enter (sh : Shape) (x : Cells) (m : ℕ) (c : Column) : Type 0 where
+pub record Enter (sh : Shape) (x : Cells) (m : ℕ) (c : Registers) : Type 0 where
   pub cell : (s : TrackSet) (k : ℕ) → suc k < lag sh → get_or (of_set s c.a c.b) k 0 ≡ entering sh x s m k
 
 -- Track 0 at position m is the head of the set's register.
@@ -41,6 +42,6 @@ pub record BitsTo (n : ℕ) (a b : List ℕ) : Type 0 where
   pub bit : (s : TrackSet) (k : ℕ) → k < n → get_or (of_set s a b) k 0 < 2
 
 -- What a step gives: from the registers of a record before position m, and its cells there, those after it. Bits stay bits.
-pub record Stepped (r : Registers) (c : Column) (next : Registers) : Type 0 where
+pub record Stepped (r : Registers) (c : Registers) (next : Registers) : Type 0 where
   pub hold : (sh : Shape) (x : Cells) (m : ℕ) → lag sh ≡ 15 → BitsTo 14 c.a c.b → Hold sh x m r → Enter sh x m c → Heads x m r → Hold sh x (suc m) next
   pub bits : BitsTo 15 r.a r.b → BitsTo 14 c.a c.b → BitsTo 15 next.a next.b

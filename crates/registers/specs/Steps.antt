@@ -1,10 +1,11 @@
 -- What the registers are stepped for: tracks 0 of the record of a payload.
 use Rattle.std.specs.Prelude.{◌≡◌, List, ℕ, ◌+◌, ◌*◌, ◌-◌, ◌%◌, ◌<◌, ◌≤◌, length, get_or, set}
-use Rattle.code.specs.Record.{TrackSet, A, B, other, Shape, data_tracks, track_length, Cells, diagonal}
+use Rattle.code.specs.Record.{other, Shape, data_tracks, track_length, Cells, diagonal}
+use Rattle.code.specs.declared.sizes.TrackSet.{TrackSet}
+use Rattle.code.specs.declared.sizes.TrackSet.TheVariants.{A, B}
 use Rattle.code.specs.Payload.{Carries}
 use Rattle.track.specs.Track.{Bits}
 use Rattle.registers.specs.declared.Registers.{Registers}
-use Rattle.registers.specs.declared.Column.{Column}
 use Rattle.registers.specs.Places.{BitsAt}
 use Rattle.registers.specs.Register.{of_set, Hold, BitsTo, Stepped}
 
@@ -41,21 +42,21 @@ pub record Ordered (own across places : List ℕ) : Type 0 where
   pub then : (k : ℕ) → k < 7 → get_or places (7 + k) 0 ≡ get_or across (6 - k) 0
 
 -- The bytes of the block at `at`, in the order in which their cells enter the registers.
-pub record BlockBytes (payload : List ℕ) (at : ℕ) (c : Column) : Type 0 where
+pub record BlockBytes (payload : List ℕ) (at : ℕ) (c : Registers) : Type 0 where
   pub own : (s : TrackSet) (k : ℕ) → k < 7 → get_or (of_set s c.a c.b) k 0 ≡ get_or payload (at + first_byte s + k) 0
   pub across : (s : TrackSet) (k : ℕ) → k < 7 → get_or (of_set s c.a c.b) (7 + k) 0 ≡ get_or payload (at + first_byte (other s) + (6 - k)) 0
 
 -- Bit k of each byte.
-pub record CellsOf (bytes : Column) (k : ℕ) (cells : Column) : Type 0 where
+pub record CellsOf (bytes : Registers) (k : ℕ) (cells : Registers) : Type 0 where
   pub bits_at : (s : TrackSet) → BitsAt (of_set s bytes.a bytes.b) k (of_set s cells.a cells.b)
 
 -- ## Positions
 
 -- Position m passes: the heads are written as tracks 0, and bit k of each byte enters the registers.
-pub record Passed (m k : ℕ) (r : Registers) (bytes : Column) (a b after_a after_b : List ℕ) (next : Registers) : Type 0 where
+pub record Passed (m k : ℕ) (r : Registers) (bytes : Registers) (a b after_a after_b : List ℕ) (next : Registers) : Type 0 where
   pub track_a : after_a ≡ set a m (get_or r.a 0 0)
   pub track_b : after_b ≡ set b m (get_or r.b 0 0)
-  pub cells : Column
+  pub cells : Registers
   pub taken : CellsOf bytes k cells
   pub stepped : Stepped r cells next
 
@@ -74,15 +75,9 @@ pub record Passing (n : ℕ) (payload : List ℕ) (m : ℕ) (a b : List ℕ) (r 
   pub hold : (sh : Shape) (x : Cells) → Sevens sh n → DataOf sh n payload x → ChecksOf m a b x → Hold sh x m r
   pub even : (sh : Shape) (x : Cells) → Sevens sh n → DataOf sh n payload x → ChecksOf m a b x → (s : TrackSet) (q : ℕ) → q < m → diagonal sh x s q % 2 ≡ 0
 
--- The bytes are 0, as they are for the tail.
-pub record Zeros (bytes : Column) : Type 0 where
-  pub zero : (s : TrackSet) (i : ℕ) → i < 15 → get_or (of_set s bytes.a bytes.b) i 0 ≡ 0
-
--- Two positions pass, with bits k + 1 and k of the bytes: those of a block, or 0 for the tail.
-pub record TwoPassed (m k : ℕ) (r : Registers) (bytes : Column) (a b after_a after_b : List ℕ) (next : Registers) : Type 0 where
+-- Two positions of a block pass, with bits k + 1 and k of its bytes.
+pub record TwoPassed (m k : ℕ) (r : Registers) (bytes : Registers) (a b after_a after_b : List ℕ) (next : Registers) : Type 0 where
   pub passing : (n : ℕ) (payload : List ℕ) (block : ℕ) → block < n → m + k ≡ 8 * block + 6 → BlockBytes payload (14 * block) bytes →
-      Passing n payload m a b r → Passing n payload (m + 2) after_a after_b next
-  pub tail : (n : ℕ) (payload : List ℕ) → Zeros bytes → 8 * n ≤ m → m + 2 ≤ 8 * n + 15 →
       Passing n payload m a b r → Passing n payload (m + 2) after_a after_b next
 
 -- What `carry` gives: two stretches of bits that are the tracks 0 of the payload's record, as they make its diagonals even.
@@ -90,7 +85,3 @@ pub record Carried (n : ℕ) (payload a b : List ℕ) : Type 0 where
   pub bits : (s : TrackSet) → Bits (of_set s a b)
   pub even : (sh : Shape) (x : Cells) → Sevens sh n → DataOf sh n payload x → ChecksOf (track_length sh) a b x →
       (s : TrackSet) (m : ℕ) → m < track_length sh → diagonal sh x s m % 2 ≡ 0
-
--- The tail passes after n blocks.
-pub record TailPassed (n : ℕ) (r : Registers) (a b after_a after_b : List ℕ) : Type 0 where
-  pub carried : (payload : List ℕ) → Passing n payload (8 * n) a b r → Carried n payload after_a after_b

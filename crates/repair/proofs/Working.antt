@@ -3,17 +3,18 @@ use mathlib.Core.Path.{◌≡◌, refl, sym, ◌∙◌}
 use mathlib.Core.Logic.{◌≢◌, by_cases}
 use mathlib.Core.Bool.{true, false}
 use mathlib.Core.List.{List}
-use Prim.Native.Nat.{ℕ, suc, ◌+◌, ◌<◌, ◌≤◌, ◌%◌}
+use Rattle.std.specs.Prelude.{Option, Some}
+use Prim.Native.Nat.{ℕ, ◌+◌, ◌<◌, ◌≤◌, ◌%◌}
 use native.Mathlib.Decide.{dec_le, dec_lt}
 use native.Mathlib.Omega.{arith}
-use Rattle.code.specs.Record.{TrackSet, Shape, tracks, track_length, vertical_end, tail_tracks, Cells, Good}
+use Rattle.code.specs.declared.sizes.TrackSet.{TrackSet}
+use Rattle.code.specs.Record.{row_of, Shape, tracks, track_length, vertical_end, tail_tracks, Cells, Good}
 use Rattle.code.specs.Image.{cells}
 use Rattle.code.specs.Flags.{TrackFlags, whole, AgreeOff}
 use Rattle.code.specs.Sizes.{shape}
-use Rattle.code.specs.declared.Sizes.{Sizes}
+use Rattle.code.specs.declared.sizes.Sizes.{Sizes}
 use Rattle.code.proofs.Cell.{tail_within}
 use Rattle.code.proofs.Linear.{plus, good_same}
-use Rattle.syndrome.specs.Syndrome.{row_of}
 use Rattle.plans.specs.declared.Form.{Form}
 use Rattle.plans.specs.Plans.{room, Fits}
 use Rattle.forms.specs.Streams.{cut}
@@ -23,7 +24,7 @@ use Rattle.forms.proofs.Sound.{sound, sound_agree}
 use Rattle.errors.specs.Rows.{cell, diagonals, verticals}
 use Rattle.errors.specs.Steps.{TestedIn, Found}
 use Rattle.forms.proofs.Shifts.{cut_zero}
-use Rattle.mend.specs.Mend.{Added}
+use Rattle.mend.specs.Mend.{Added, Explained}
 use Rattle.repair.specs.declared.Needs.{Needs}
 use Rattle.repair.specs.Steps.{need_of, Prepared, errors_in}
 
@@ -56,10 +57,10 @@ module _ (z : Sizes) (f : TrackFlags) (image out words : List ℕ) (need : Needs
       (λ b. there (λ _ h _. b h)))
       (λ a. there (λ h _ _. a h))
 
-  -- g flags what f does and, in each set, an extra track e - 1.
-  module _ (g : TrackFlags) (e : TrackSet → ℕ) (small : (s : TrackSet) → e s ≤ 9)
-      (less : (s : TrackSet) (t : ℕ) → g s t ≡ false → (f s t ≡ false) × (suc t ≢ e s))
-      (grown : (s : TrackSet) (t : ℕ) → t < tracks sh s → f s t ≡ false → suc t ≢ e s → g s t ≡ false) where
+  -- g flags what f does and, in each set, an extra e, none or a track.
+  module _ (g : TrackFlags) (e : TrackSet → Option ℕ)
+      (less : (s : TrackSet) (t : ℕ) → g s t ≡ false → (f s t ≡ false) × (e s ≢ Some t))
+      (grown : (s : TrackSet) (t : ℕ) → t < tracks sh s → f s t ≡ false → e s ≢ Some t → g s t ≡ false) where
     -- A good record that agrees with the image agrees with the working copy.
     to_copy : (y : Cells) → Good sh y → AgreeOff sh (whole g) (cells sh image) y → AgreeOff sh (whole g) (cells sh out) y
     to_copy y gy a = record {
@@ -69,17 +70,17 @@ module _ (z : Sizes) (f : TrackFlags) (image out words : List ℕ) (need : Needs
     }
 
     -- And the other way, where the extra tracks explain the tails.
-    to_image : ((s : TrackSet) → need_of need s ≢ 0 → need_of need s ≡ e s) → (y : Cells) → AgreeOff sh (whole g) (cells sh out) y → AgreeOff sh (whole g) (cells sh image) y
+    to_image : ((s : TrackSet) → Explained (need_of need s) (e s)) → (y : Cells) → AgreeOff sh (whole g) (cells sh out) y → AgreeOff sh (whole g) (cells sh image) y
     to_image fit y a = record {
       cell = λ s t m l b h. tail_or s t m
-          (λ i j k. prepared.fits s (e s) (small s) (fit s) t m i j (less s t h).0 (less s t h).1 k b
+          (λ i j k. prepared.fits s (e s) (fit s) t m i j (less s t h).0 (less s t h).1 k b
           ∙ sym (prepared.tails s t m i j k b) ∙ a.cell s t m l b h)
           (λ n. sym (prepared.same s t m l b n) ∙ a.cell s t m l b h);
     }
 
     -- Where they do not, there is no good record.
-    pub tails_none : (s : TrackSet) → need_of need s ≢ 0 → need_of need s ≢ e s → (y : Cells) → Good sh y → AgreeOff sh (whole g) (cells sh image) y → ⊥
-    tails_none s n d y gy a = prepared.fails s (e s) (small s) n d
+    pub tails_none : (s : TrackSet) → (Explained (need_of need s) (e s) → ⊥) → (y : Cells) → Good sh y → AgreeOff sh (whole g) (cells sh image) y → ⊥
+    tails_none s n y gy a = prepared.fails s (e s) n
         (λ t m i j h k low b. a.cell s t m (omega (arith, tail_within sh s)) b (grown s t (omega (arith, tail_within sh s)) h k) ∙ gy.tail s t m i j low b)
 
     module _ (p : Form) (fits : Fits sh g p) (found : List ℕ) where
@@ -99,7 +100,7 @@ module _ (z : Sizes) (f : TrackFlags) (image out words : List ℕ) (need : Needs
               (λ h k m l r. lower_quiet sh (vertical_end sh) p _ _ _ _ _ _ w.computed h k m (omega (arith, w.all refl)) l r))
 
           -- that agrees with the image.
-          pub found_agree : ((s : TrackSet) → need_of need s ≢ 0 → need_of need s ≡ e s) → AgreeOff sh (whole g) (cells sh image) (cells sh after)
+          pub found_agree : ((s : TrackSet) → Explained (need_of need s) (e s)) → AgreeOff sh (whole g) (cells sh image) (cells sh after)
           found_agree fit = to_image fit (cells sh after) (record {
             cell = λ s t m l b h. (sound_agree sh (cells sh out) g p (diagonals words) (verticals words) (λ c. cell found (2 + row_of c)) (cell found 0) (cell found 1)
                 (λ s t m l b. prepared.copy.bits _) fits (all_tested z p words found w) (pivot_error z p words found w)).cell s t m l b h ∙ sym (added.cell_at s t m l b);

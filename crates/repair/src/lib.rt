@@ -1,69 +1,55 @@
 // Repairer, and what the tracer shares with it: the checks, and working copies with their sums.
 #![tactic(auto)]
 
-ghost use Rattle.std.specs.Prelude.{◌≡◌, ◌≤◌, length};
+ghost use Rattle.std.specs.Prelude.{◌≡◌, ◌≤◌, length, IfOk};
 ghost use Rattle.code.specs.Record.{base};
-ghost use Rattle.code.specs.Image.{all_tracks, image_size, cells};
+ghost use Rattle.code.specs.Image.{all_tracks, image_size};
 ghost use Rattle.code.specs.Flags.{whole};
 ghost use Rattle.code.specs.Lost.{read_values};
-ghost use Rattle.code.specs.Calls.{early_checks, mended, Repairs};
+ghost use Rattle.code.specs.Calls.{early_checks, Repairs};
 ghost use Rattle.code.specs.Promises.{Repaired};
-ghost use Rattle.code.specs.Answers.{extra_of, result_of};
-ghost use Rattle.code.specs.Sizes.{shape, Small};
+ghost use Rattle.code.specs.Answers.{done_of, result_of};
+ghost use Rattle.code.specs.Sizes.{shape};
 ghost use Rattle.track.specs.Track.{known, Copied};
 ghost use Rattle.checks.specs.First.{FirstAnswer};
 ghost use Rattle.checks.specs.Lost.{LostTold};
 ghost use Rattle.syndrome.specs.Syndrome.{Image};
 ghost use Rattle.solver.specs.Solver.{marked};
 ghost use Rattle.flags.specs.Marks.{ReadImage};
-ghost use Rattle.changes.specs.Changes.{OnlyMarked};
 ghost use Rattle.plans.specs.Plans.{Sized};
 ghost use Rattle.errors.specs.Rows.{Rows};
-ghost use Rattle.repair.specs.Steps.{names, Given, Prepared, MadeGood};
+ghost use Rattle.repair.specs.Steps.{Given, Prepared, MadeGood};
 
-use checks::Checked;
-use code::{Answer, Extra, Sizes, plain_answer};
+use code::{Answer, Refusal, Sizes, TrackSet};
+use mend::Need;
 use plans::Form;
 
 // ---- Checks
 
-// The number of a call that is refused before its flags are counted, and of one that is not 0 and whether a cell is lost.
-pub fn check(blocks: u32, flags: u32, image: &[u8], room: usize) -> Checked
-    ensures first { FirstAnswer (early_checks read_values (base blocks) blocks flags image.now room) (result_of result.answer) }
-    ensures told { result.answer.number ≡ 0 → LostTold image.now result.lost }
+// Numbers 1 to 5, before the flags are counted; and whether a cell is lost, where none of them applies.
+pub fn check(blocks: u32, flags: u32, image: &[u8], room: usize) -> Result<bool, Refusal>
+    ensures first { FirstAnswer (early_checks read_values (base blocks) blocks flags image.now room) (done_of result) }
+    ensures told { IfOk result (LostTold image.now) }
 {
     let size = 18 * (8 * blocks as usize + 15);
-    let seen = checks::check_image(blocks, image, 3, size, room, size);
-    let first = seen.answer;
-    if first.number != 0 {
-        return seen;
-    }
+    let lost = checks::check_image(blocks, image, 3, size, room, size)?;
     if 262144 <= flags {
-        let refused = plain_answer(5, 0);
-        return Checked {
-            answer: refused,
-            lost: false,
-        };
+        return Err(Refusal::FlagWord);
     }
-    let passed = plain_answer(0, 0);
-    Checked {
-        answer: passed,
-        lost: seen.lost,
-    }
+    Ok(lost)
 }
 
 // ---- Working copies
 
-// For each set 0, t + 1 or 16: where tails of tracks without a mark were not 0, the one extra track that explains them, or none does.
+// What the tails of each set need.
 #[derive(Clone, Copy)]
 pub struct Needs {
-    pub a: usize,
-    pub b: usize,
+    pub a: Need,
+    pub b: Need,
 }
 
 // Makes a working copy of the image, whose tails are 0 where rule 4 makes them so, and loads its sums.
-pub fn prepare(z: Sizes, marks: &[u8], image: &[u8], out: &mut [u8], rows: &mut [u64]) -> Needs
-    requires small { Small z }
+pub fn prepare(z: Sizes, marks: &[bool], image: &[u8], out: &mut [u8], rows: &mut [u64]) -> Needs
     requires read_image { ReadImage (shape z) image.now }
     requires out_len { length out.old ≡ image_size (shape z) }
     requires z_in_bounds { all_tracks (shape z) ≤ length marks.now }
@@ -71,8 +57,8 @@ pub fn prepare(z: Sizes, marks: &[u8], image: &[u8], out: &mut [u8], rows: &mut 
     ensures { Prepared z (marked (shape z) marks.now) (known image.now) out.new rows.new result }
 {
     track::copy_known(out, image);
-    let a = mend::clear_tails(z, marks, out, 0);
-    let b = mend::clear_tails(z, marks, out, 1);
+    let a = mend::clear_tails(z, marks, out, TrackSet::A);
+    let b = mend::clear_tails(z, marks, out, TrackSet::B);
     mend::load_sums(out, z, rows);
     Needs { a, b }
 }
@@ -82,46 +68,24 @@ pub fn put_back(image: &[u8], out: &mut [u8])
     requires { length image.now ≤ length out.old }
     ensures { Copied image.now out.old out.new }
 {
-    track::copy_long(out, image);
-}
-
-// The answer 0 with what was changed, where marked tracks alone were, and with these extras.
-pub fn answer_of(z: Sizes, marks: &[u8], image: &[u8], out: &[u8], a: Extra, b: Extra) -> Answer
-    requires { OnlyMarked z marks.now image.now out.now }
-    ensures { result_of result ≡ mended (shape z) (cells (shape z) image.now) (cells (shape z) out.now) (names (extra_of a) (extra_of b)) }
-{
-    let t = changes::count_changes(z, marks, image, out);
-    Answer {
-        number: 0,
-        detail: 0,
-        mask: t.mask,
-        cells: t.cells,
-        a,
-        b,
-    }
+    track::copy_into(out, image);
 }
 
 // ---- One set of flags
 
 // Finds the errors of a form's tracks and adds them. True: the working copy is a good record now. False: there is none.
 fn make_good(z: Sizes, need: Needs, p: Form, out: &mut [u8], rows: &[u64]) -> bool
-    requires small { Small z }
     requires image { Image (shape z) out.old }
     requires rows { Rows 4 rows.now }
     requires sized { Sized (shape z) p }
     ensures { MadeGood z need p rows.now out.old out.new result }
 {
-    let l = z.positions + (z.t1 + z.t2 + 1);
-    if need.a != 0 {
+    if !need.a.explained_by(None) || !need.b.explained_by(None) {
         return false;
     }
-    if need.b != 0 {
-        return false;
-    }
-    let start = mend::find_start(rows, l);
-    let end = syndrome::vertical_end(z);
+    let start = mend::find_start(rows, z.track_length());
     let mut found = [0u64; 171];
-    if !errors::find(rows, &mut found, z, end, p, start) {
+    if !errors::find(rows, &mut found, z, z.vertical_end(), p, start) {
         return false;
     }
     mend::add_errors(out, z, p, &found);
@@ -129,41 +93,37 @@ fn make_good(z: Sizes, need: Needs, p: Form, out: &mut [u8], rows: &[u64]) -> bo
 }
 
 // Repairs into the output, of the image's size.
-fn repair_record(z: Sizes, marks: [u8; 18], image: &[u8], out: &mut [u8]) -> Answer
-    requires { Given z marks image.now out.old }
+fn repair_record(
+    z: Sizes,
+    marks: [bool; 18],
+    image: &[u8],
+    out: &mut [u8],
+) -> Result<Answer, Refusal>
+    requires { Given (shape z) marks image.now out.old }
     ensures { Repairs (shape z) (whole (marked (shape z) marks)) image.now out.old (result_of result) out.new }
 {
     let mut rows = [0u64; 137];
     let need = prepare(z, &marks, image, out, &mut rows);
-    let x = plans::find_three(&marks, z, 0);
-    let y = plans::find_three(&marks, z, 1);
+    let x = plans::find_three(&marks, z, TrackSet::A);
+    let y = plans::find_three(&marks, z, TrackSet::B);
     let p = plans::form_of(z, x, y);
     if make_good(z, need, p, out, &rows) {
-        return answer_of(z, &marks, image, out, Extra::None, Extra::None);
+        return Ok(changes::answer_of(z, &marks, image, out, None, None));
     }
     put_back(image, out);
-    plain_answer(7, 0)
+    Err(Refusal::NoRecord)
 }
 
 // Repairer: the flagged tracks are made right, or there is no good record that equals the image on the others.
-pub fn repair(blocks: u32, flags: u32, image: &[u8], out: &mut [u8]) -> Answer
+pub fn repair(blocks: u32, flags: u32, image: &[u8], out: &mut [u8]) -> Result<Answer, Refusal>
     ensures { Repaired blocks flags image.now out.old (result_of result) out.new }
 {
-    let seen = check(blocks, flags, image, out.len());
-    let refused = seen.answer;
-    if refused.number != 0 {
-        return refused;
-    }
+    let lost = check(blocks, flags, image, out.len())?;
     let n = blocks as usize;
-    let z = Sizes {
-        t1: 7,
-        t2: 7,
-        positions: 8 * n,
-        closed: true,
-    };
-    let marks = flags::call_marks(z, flags, image, seen.lost);
+    let z = Sizes::of_blocks(n);
+    let marks = flags::call_marks(z, flags, image, lost);
     if flags::code_of(z, &marks) == 0 {
-        return plain_answer(6, 0);
+        return Err(Refusal::TooMany);
     }
     repair_record(z, marks, image, &mut out[..18 * (8 * n + 15)])
 }

@@ -9,28 +9,36 @@ use borrow.Author.Tests.{lt-ltb, le-ltb}
 use lib.Arith.{digits_div, digits_mod}
 use lib.ListN.{length, get_or}
 use lib.Seq.{get_or-set_same, get_or-set_other}
-use Rattle.code.specs.Record.{TrackSet, A, B, other, Shape, data_tracks, tracks, lag, track_length, Cells, diagonal, vertical}
+use Rattle.std.specs.Prelude.{Option, Some, None, IfSome}
+use Rattle.code.specs.declared.sizes.TrackSet.{TrackSet}
+use Rattle.code.specs.declared.sizes.TrackSet.TheVariants.{A, B}
+use Rattle.code.specs.Record.{other, row_of, Shape, data_tracks, tracks, lag, track_length, Cells}
 use Rattle.code.specs.Image.{track_number, cells}
 use Rattle.code.specs.Sizes.{shape}
-use Rattle.code.specs.declared.Sizes.{Sizes}
+use Rattle.code.specs.declared.sizes.Sizes.{Sizes}
 use Rattle.code.proofs.Places.{cell_lt}
-use Rattle.syndrome.specs.Syndrome.{set_of, Kept, IsCell, CellAdded, index, turned}
-use Rattle.solver.specs.Steps.{Settled, tail_sum, ByOwn, ByOther, ByVertical, ByTail, Still}
-use Rattle.solver.proofs.Sets.{own_row, other_row}
+use Rattle.syndrome.specs.Syndrome.{Kept, IsCell, CellAdded, index, turned}
+use Rattle.solver.specs.declared.Rule.{Rule}
+use Rattle.solver.specs.declared.Rule.TheVariants.{Own, Other, Vertical}
+use Rattle.solver.specs.declared.Way.{Way}
+use Rattle.solver.specs.Steps.{Settled, sum_by, tail_sum, TailBit, By, Still}
+use Rattle.solver.specs.Ways.{sums_from, IsWay, WayOf, track_of, read_sum}
+use Rattle.solver.proofs.Sets.{same_track, no_track, track_is, same_tracks}
 
 -- ## Cells apart
 
 -- Two sets are the same or not.
 set_discrete : (r s : TrackSet) → Dec (r ≡ s)
 set_discrete A A = yes refl
-set_discrete A B = no (λ e. let z : ◌≡◌ {A = ℕ} 0 1 = cc in omega arith)
-set_discrete B A = no (λ e. let z : ◌≡◌ {A = ℕ} 0 1 = cc in omega arith)
+set_discrete A B = no (λ e. cc)
+set_discrete B A = no (λ e. cc)
 set_discrete B B = yes refl
 
--- Two cells are the same one or not.
-same_cell : {P : Type 0} (r s : TrackSet) (u t q p : ℕ) → (r ≡ s → u ≡ t → q ≡ p → P) → ((r ≡ s → u ≡ t → q ≡ p → ⊥) → P) → P
-same_cell r s u t q p a b = by_cases (set_discrete r s)
-    (λ e. by_cases (ℕ_discrete u t) (λ f. by_cases (ℕ_discrete q p) (a e f) (λ d. b (λ _ _. d))) (λ d. b (λ _ f _. d f)))
+-- A cell is that of a track at p or not.
+same_cell : {P : Type 0} (r s : TrackSet) (u : ℕ) (track : Option ℕ) (q p : ℕ) → (r ≡ s → track ≡ Some u → q ≡ p → P) →
+    ((r ≡ s → track ≡ Some u → q ≡ p → ⊥) → P) → P
+same_cell r s u track q p a b = by_cases (set_discrete r s)
+    (λ e. by_cases (track_is track u) (λ f. by_cases (ℕ_discrete q p) (a e f) (λ d. b (λ _ _. d))) (λ d. b (λ _ f _. d f)))
     (λ d. b (λ e _ _. d e))
 
 -- Tracks with the same number are the same.
@@ -51,121 +59,134 @@ index_apart sh r s u t q p h k b c d e =
 -- ## Settled cells
 
 -- A cell that is turned over.
-settled_turned : {z : Sizes} {s t p : ℕ} {out after syn syn' : List ℕ} (bound : ℕ) → Kept z out syn → IsCell z s t p →
-    after ≡ turned z s t p out → Kept z after syn' → Settled z bound s t p 1 out after syn'
-settled_turned {z} {s} {t} {p} {out} bound k i e k' = record {
+settled_turned : {z : Sizes} {s : TrackSet} {t p : ℕ} {out after syn syn' : List ℕ} → Kept z out syn → IsCell z s t p →
+    after ≡ turned z s t p out → Kept z after syn' → Settled z s (Some t) p (λ _. 1) out after syn'
+settled_turned {z} {s} {t} {p} {out} k i e k' = record {
   kept = k';
-  here = λ _. ap (λ (o : List ℕ). get_or o (index z s t p) 0) e ∙ get_or-set_same out (index z s t p) (1 - get_or out (index z s t p) 0) 0 inside
-      ∙ omega (arith, k.image.bits (index z s t p));
+  here = λ u d _. rw (sym (same_track refl d)) (ap (λ (o : List ℕ). get_or o (index z s t p) 0) e
+      ∙ get_or-set_same out (index z s t p) (1 - get_or out (index z s t p) 0) 0 inside ∙ omega (arith, k.image.bits (index z s t p)));
   there = λ r u q h b d. ap (λ (o : List ℕ). get_or o (track_number (shape z) r u * track_length (shape z) + q) 0) e
       ∙ get_or-set_other out (index z s t p) _ (1 - get_or out (index z s t p) 0) 0
-      (index_apart (shape z) r (set_of s) u t q p h i.track_small b i.position_small d);
+      (index_apart (shape z) r s u t q p h i.track_small b i.position_small (λ j f. d j (ap Some (sym f))));
 }
   where
     inside : index z s t p < length out
-    inside = omega (arith, cell_lt (shape z) (set_of s) t p i.track_small i.position_small, k.image.size)
+    inside = omega (arith, cell_lt (shape z) s t p i.track_small i.position_small, k.image.size)
 
--- A cell that stays.
-settled_same : {z : Sizes} {s t p : ℕ} {out syn : List ℕ} (bound : ℕ) → Kept z out syn → Settled z bound s t p 0 out out syn
-settled_same {z} {s} {t} {p} bound k = record {
+-- A cell that is left as it is.
+settled_same : {z : Sizes} {s : TrackSet} {t p : ℕ} {out syn : List ℕ} → Kept z out syn → Settled z s (Some t) p (λ _. 0) out out syn
+settled_same {z} {s} {p = p} k = record {
   kept = k;
-  here = λ _. omega (arith, k.image.bits (index z s t p));
+  here = λ u _ _. omega (arith, k.image.bits (index z s u p));
   there = λ r u q h b n. refl;
 }
 
+-- No cell.
+pub settled_none : {z : Sizes} {s : TrackSet} {track : Option ℕ} {p : ℕ} {d : ℕ → ℕ} {out syn : List ℕ} → Kept z out syn →
+    ((t : ℕ) → track ≡ Some t → t < tracks (shape z) s → ⊥) → Settled z s track p d out out syn
+settled_none k n = record { kept = k; here = λ t e l. absurd (n t e l); there = λ r u q h b d. refl }
+
 -- A cell to which a bit is added.
-pub settled_added : {z : Sizes} {s t p : ℕ} {out after syn syn' : List ℕ} (bound w : ℕ) → w < 2 → Kept z out syn → IsCell z s t p →
-    CellAdded z s t p w out after syn' → Settled z bound s t p w out after syn'
-settled_added bound zero h k i c = rw (c.zero refl) (settled_same bound (rw (c.zero refl) at c.kept))
-settled_added bound (suc zero) h k i c = settled_turned bound k i (c.one refl) c.kept
-settled_added bound (suc (suc w)) h k i c = absurd (omega arith)
+pub settled_added : {z : Sizes} {s : TrackSet} {t p : ℕ} {out after syn syn' : List ℕ} (w : ℕ) → w < 2 → Kept z out syn → IsCell z s t p →
+    CellAdded z s t p w out after syn' → Settled z s (Some t) p (λ _. w) out after syn'
+settled_added zero h k i c = rw (c.zero refl) (settled_same (rw (c.zero refl) at c.kept))
+settled_added (suc zero) h k i c = settled_turned k i (c.one refl) c.kept
+settled_added (suc (suc w)) h k i c = absurd (omega arith)
 
--- By a syndrome, whatever its index is called.
-pub settled_at : {z : Sizes} {bound s t p : ℕ} {out after syn : List ℕ} (sums : List ℕ) (i j : ℕ) → i ≡ j →
-    Settled z bound s t p (get_or sums i 0) out after syn → Settled z bound s t p (get_or sums j 0) out after syn
-settled_at sums i j e w = rw e at w
-
--- By another bound and another sum of the same parity.
-settled_by : {z : Sizes} {bound s t p d : ℕ} {out after syn : List ℕ} (bound' d' : ℕ) → Settled z bound s t p d out after syn →
-    (t < bound' → (t < bound) × (d % 2 ≡ d' % 2)) → Settled z bound' s t p d' out after syn
-settled_by bound' d' w e = record {
+-- By another sum of the same parity, of the same track.
+pub settled_by : {z : Sizes} {s : TrackSet} {track track' : Option ℕ} {p : ℕ} {d : ℕ → ℕ} {out after syn : List ℕ} (d' : ℕ → ℕ) →
+    Settled z s track p d out after syn → ((t : ℕ) → track ≡ Some t → track' ≡ Some t) →
+    ((t : ℕ) → track' ≡ Some t → t < tracks (shape z) s → (track ≡ Some t) × (d t % 2 ≡ d' t % 2)) → Settled z s track' p d' out after syn
+settled_by d' w n e = record {
   kept = w.kept;
-  here = λ h. w.here (e h).0 ∙ omega (arith, (e h).1);
-  there = w.there;
+  here = λ t h l. let i = e t h l in w.here t i.0 l ∙ omega (arith, i.1);
+  there = λ r u q l b m. w.there r u q l b (λ i j k. m i (n u j) k);
 }
+
+-- A bit that is a sum modulo 2.
+pub settled_sum : {z : Sizes} {s : TrackSet} {t p w : ℕ} {out after syn : List ℕ} (d : ℕ → ℕ) → w ≡ d t % 2 →
+    Settled z s (Some t) p (λ _. w) out after syn → Settled z s (Some t) p d out after syn
+settled_sum d e v = settled_by d v (λ u h. h) (λ u h l. (h, rw (sym (same_track refl h)) (omega (arith, e))))
 
 -- ## Cells settled by a syndrome
 
-module _ {z : Sizes} {s : ℕ} {out syn : List ℕ} (k : Kept z out syn) (h : s < 2) where
-  -- The syndromes by the set's number.
-  own_sum : (m : ℕ) → m < track_length (shape z) → get_or syn (s * track_length (shape z) + m) 0 % 2 ≡ diagonal (shape z) (cells (shape z) out) (set_of s) m % 2
-  own_sum m b = let e = k.holds.diagonals (set_of s) m b in omega (arith, rw (own_row s h) at e)
+module _ {z : Sizes} {s : TrackSet} {out syn : List ℕ} (k : Kept z out syn) where
+  -- A way's syndrome is there.
+  pub way_in : {w : Way} (rule : Rule) (p : ℕ) → IsWay z s rule w → p < z.positions → w.sums + p < length syn
+  way_in rule p i h = omega (arith, i.sums, k.holds.size, go s rule i.track)
+    where
+      go : (c : TrackSet) (r : Rule) {t : ℕ} → t < tracks (shape z) c → sums_from r z c t + p < 4 * track_length (shape z)
+      go A Own l = omega arith
+      go B Own l = omega arith
+      go A Other l = omega arith
+      go B Other l = omega arith
+      go A Vertical l = omega arith
+      go B Vertical l = omega arith
 
-  other_sum : (m : ℕ) → m < track_length (shape z) →
-      get_or syn ((1 - s) * track_length (shape z) + m) 0 % 2 ≡ diagonal (shape z) (cells (shape z) out) (other (set_of s)) m % 2
-  other_sum m b = let e = k.holds.diagonals (other (set_of s)) m b in omega (arith, rw (other_row s h) at e)
+  -- It is the sum of its rule.
+  way_sum : (rule : Rule) (w : Way) (p : ℕ) → IsWay z s rule w → p < z.positions →
+      get_or syn (w.sums + p) 0 ≡ sum_by rule (shape z) (cells (shape z) out) s w.t p % 2
+  way_sum Own w p i h = ap (λ (m : ℕ). get_or syn m 0) (omega (arith, i.sums)) ∙ k.holds.diagonals s (p + w.t) (on s i.track)
+    where
+      on : (c : TrackSet) → w.t < tracks (shape z) c → p + w.t < track_length (shape z)
+      on A l = omega arith
+      on B l = omega arith
+  way_sum Other w p i h = ap (λ (m : ℕ). get_or syn m 0) (omega (arith, i.sums)) ∙ k.holds.diagonals (other s) (p + (lag (shape z) - w.t)) (omega arith)
+  way_sum Vertical w p i h = ap (λ (m : ℕ). get_or syn m 0) (omega (arith, i.sums)) ∙ k.holds.verticals s p (omega arith)
 
-  vertical_sum : (m : ℕ) → m < track_length (shape z) → get_or syn ((2 + s) * track_length (shape z) + m) 0 % 2 ≡ vertical (shape z) (cells (shape z) out) (set_of s) m % 2
-  vertical_sum m b = let e = k.holds.verticals (set_of s) m b in omega (arith, rw (own_row s h) at e)
+  -- A way goes by its rule.
+  pub settled_way : {after syn' : List ℕ} (rule : Rule) (way : Option Way) (p : ℕ) → IfSome way (λ w. IsWay z s rule w) → p < z.positions →
+      Settled z s (track_of way) p (λ t. read_sum syn way p) out after syn' → By rule z s (track_of way) p out after syn'
+  settled_way rule None p i h v = settled_by _ v (λ t e. e) (λ t e. absurd (no_track refl e))
+  settled_way rule (Some w) p i h v = settled_sum _ (way_sum rule w p i h) v
 
-  -- By its own diagonal, by the other set's and by the vertical.
-  pub settled_own : {t p : ℕ} {after syn' : List ℕ} → p + t < track_length (shape z) →
-      Settled z (tracks (shape z) (set_of s)) s t p (get_or syn (s * track_length (shape z) + (p + t)) 0) out after syn' → ByOwn z s t p out after syn'
-  settled_own {t} {p} b w = settled_by _ _ w (λ l. (omega arith, own_sum (p + t) b))
+-- The way of a plan's track settles that track's cell.
+pub settled_found : {z : Sizes} {s : TrackSet} {rule : Rule} {track : Option ℕ} {way : Option Way} {p : ℕ} {d : ℕ → ℕ} {out after syn : List ℕ} →
+    WayOf z s rule track way → Settled z s (track_of way) p d out after syn → Settled z s track p d out after syn
+settled_found o w = settled_by _ w o.of (λ t e l. (o.found t e l, refl))
 
-  pub settled_other : {t p : ℕ} {after syn' : List ℕ} → p + (lag (shape z) - t) < track_length (shape z) →
-      Settled z (tracks (shape z) (set_of s)) s t p (get_or syn ((1 - s) * track_length (shape z) + (p + (lag (shape z) - t))) 0) out after syn' →
-      ByOther z s t p out after syn'
-  settled_other {t} {p} b w = settled_by _ _ w (λ l. (omega arith, other_sum (p + (lag (shape z) - t)) b))
-
-  pub settled_vertical : {t p : ℕ} {after syn' : List ℕ} → p < track_length (shape z) →
-      Settled z (tracks (shape z) (set_of s)) s t p (get_or syn ((2 + s) * track_length (shape z) + p) 0) out after syn' → ByVertical z s t p out after syn'
-  settled_vertical {t} {p} b w = settled_by _ _ w (λ l. (l, vertical_sum p b))
+-- The ways of a plan are those of its tracks.
+pub way_track : {z : Sizes} {s : TrackSet} {rule : Rule} {track : Option ℕ} {way : Option Way} → WayOf z s rule track way →
+    ((t : ℕ) → track ≡ Some t → t < tracks (shape z) s) → track_of way ≡ track
+way_track o h = same_tracks _ _ o.of (λ t e. o.found t e (h t e))
 
 -- ## Cells of the tail
 
-module _ (sh : Shape) (x : Cells) (s : TrackSet) where
+module _ {z : Sizes} {s : TrackSet} {out syn : List ℕ} (k : Kept z out syn) where
   -- Track 0, the data tracks and the vertical track.
-  tail_check : (t p : ℕ) → t ≡ 0 → diagonal sh x s (p + t) ≡ tail_sum sh x s t p
+  pub bit_check : {t p : ℕ} → t ≡ 0 → p < track_length (shape z) → TailBit z s t p out (get_or syn (row_of s * track_length (shape z) + p) 0)
   unfolding tail_sum
-  tail_check t p e = rw e (ap (diagonal sh x s) (omega arith))
+  bit_check {t = t} {p = p} e h = rw e (record { bit = k.holds.bits _; sum = k.holds.diagonals s p h })
 
-  tail_zero : (t p : ℕ) → t ≢ 0 → t ≤ data_tracks sh s → x s t p ≡ tail_sum sh x s t p
+  pub bit_zero : {t p : ℕ} → t ≢ 0 → t ≤ data_tracks (shape z) s → TailBit z s t p out (cells (shape z) out s t p)
   unfolding tail_sum
-  tail_zero zero p d h = absurd (d refl)
-  tail_zero (suc t) p d h = rw (lt-ltb t (data_tracks sh s) h)
+  bit_zero {t = zero} d h = absurd (d refl)
+  bit_zero {t = suc t} {p = p} d h = record {
+    bit = k.image.bits (index z s (suc t) p);
+    sum = rw (lt-ltb t (data_tracks (shape z) s) h) (omega (arith, k.image.bits (index z s (suc t) p)));
+  }
 
-  tail_top : (t p : ℕ) → data_tracks sh s < t → vertical sh x s p ≡ tail_sum sh x s t p
+  pub bit_top : {t p : ℕ} → data_tracks (shape z) s < t → p < track_length (shape z) →
+      TailBit z s t p out (get_or syn ((2 + row_of s) * track_length (shape z) + p) 0)
   unfolding tail_sum
-  tail_top zero p h = absurd (omega arith)
-  tail_top (suc t) p h = rw (le-ltb t (data_tracks sh s) (omega arith))
-
-module _ {z : Sizes} {s t p : ℕ} {out after syn : List ℕ} where
-  -- The same three as settled cells.
-  pub settled_check : t ≡ 0 → ByOwn z s t p out after syn → ByTail z s t p out after syn
-  settled_check e w = settled_by _ _ w (λ l. (omega arith, ap (λ (v : ℕ). v % 2) (tail_check (shape z) (cells (shape z) out) (set_of s) t p e)))
-
-  pub settled_zero : t ≢ 0 → t ≤ data_tracks (shape z) (set_of s) →
-      Settled z (tracks (shape z) (set_of s)) s t p (cells (shape z) out (set_of s) t p) out after syn → ByTail z s t p out after syn
-  settled_zero d h w = settled_by _ _ w (λ l. (l, ap (λ (v : ℕ). v % 2) (tail_zero (shape z) (cells (shape z) out) (set_of s) t p d h)))
-
-  pub settled_top : data_tracks (shape z) (set_of s) < t → ByVertical z s t p out after syn → ByTail z s t p out after syn
-  settled_top h w = settled_by _ _ w (λ l. (l, ap (λ (v : ℕ). v % 2) (tail_top (shape z) (cells (shape z) out) (set_of s) t p h)))
+  bit_top {t = zero} h b = absurd (omega arith)
+  bit_top {t = suc t} {p = p} h b = record { bit = k.holds.bits _; sum = rw (le-ltb t (data_tracks (shape z) s) (omega arith)) (k.holds.verticals s p b) }
 
 -- ## Right cells
 
 -- The cell that was settled is y's, so all that was right is right.
-pub record RightCell (sh : Shape) (y x x' : Cells) (s : TrackSet) (t p : ℕ) : Type 0 where
+pub record RightCell (sh : Shape) (y x x' : Cells) (s : TrackSet) (track : Option ℕ) (p : ℕ) : Type 0 where
   pub still : Still sh y x x'
-  pub cell : t < tracks sh s → x' s t p ≡ y s t p
+  pub cell : (t : ℕ) → track ≡ Some t → t < tracks sh s → x' s t p ≡ y s t p
 
-pub right_cell : {z : Sizes} {bound s t p d : ℕ} {out after syn : List ℕ} (y : Cells) → Settled z bound s t p d out after syn →
-    (t < tracks (shape z) (set_of s) → (t < bound) × (y (set_of s) t p ≡ (cells (shape z) out (set_of s) t p + d) % 2)) →
-    RightCell (shape z) y (cells (shape z) out) (cells (shape z) after) (set_of s) t p
-right_cell {z} {bound} {s} {t} {p} {d} {out} {after} y w h = record {
-  still = record { cell = λ r u q l b e. same_cell r (set_of s) u t q p (λ i j k. rw (i, j, k) (now (rw (i, j) at l))) (λ n. w.there r u q l b n ∙ e) };
+pub right_cell : {z : Sizes} {s : TrackSet} {track : Option ℕ} {p : ℕ} {d : ℕ → ℕ} {out after syn : List ℕ} (y : Cells) →
+    Settled z s track p d out after syn →
+    ((t : ℕ) → track ≡ Some t → t < tracks (shape z) s → y s t p ≡ (cells (shape z) out s t p + d t) % 2) →
+    RightCell (shape z) y (cells (shape z) out) (cells (shape z) after) s track p
+right_cell {z} {s} {track} {p} {d} {out} {after} y w h = record {
+  still = record { cell = λ r u q l b e. same_cell r s u track q p (λ i j k. rw (i, k) (now u j (rw i at l))) (λ n. w.there r u q l b n ∙ e) };
   cell = now;
 }
   where
-    now : t < tracks (shape z) (set_of s) → cells (shape z) after (set_of s) t p ≡ y (set_of s) t p
-    now l = let c = h l in w.here c.0 ∙ sym c.1
+    now : (t : ℕ) → track ≡ Some t → t < tracks (shape z) s → cells (shape z) after s t p ≡ y s t p
+    now t e l = w.here t e l ∙ sym (h t e l)

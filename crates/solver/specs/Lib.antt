@@ -1,2 +1,3 @@
 pub mod Solver
+pub mod Ways
 pub mod Steps

@@ -10,7 +10,7 @@ use Rattle.code.specs.Flags.{CellFlags, AgreeOff}
 use Rattle.code.specs.Reach.{none}
 use Rattle.code.specs.Calls.{Result, plain, mended, Repairs}
 use Rattle.code.specs.Sizes.{shape}
-use Rattle.code.specs.declared.Sizes.{Sizes}
+use Rattle.code.specs.declared.sizes.Sizes.{Sizes}
 use Rattle.code.proofs.Front.{stays_all}
 use Rattle.code.proofs.Outputs.{agree_on, not_found}
 use Rattle.track.specs.Track.{known, Copied}
@@ -38,7 +38,7 @@ module _ (z : Sizes) (words near image out : List ℕ) (given : Given z words ne
 
   pub kept : (copy syn : List ℕ) → Copied (known image) out copy → Holds sh (cells sh copy) syn → Kept z copy syn
   kept copy syn c h = subst (λ (xs : List ℕ). Kept z xs syn) (sym (made copy c))
-      (copy_kept z image copy syn given.small given.image_is.size given.image_is.readings (made copy c) h)
+      (copy_kept z image copy syn given.image_is.size given.image_is.readings (made copy c) h)
 
   module _ (copy syn after : List ℕ) (r : Bool) (c : Copied (known image) out copy) (w : Solved z flag copy after syn r) where
     agree : AgreeOff sh flag (cells sh image) (cells sh after)
@@ -46,7 +46,7 @@ module _ (z : Sizes) (words near image out : List ℕ) (given : Given z words ne
 
     -- Only flagged cells were changed.
     pub only_flagged : OnlyFlagged z words image after
-    only_flagged = record { small = given.small; image_has = given.image_is.size; out_has = w.kept.image.size; agree = agree }
+    only_flagged = record { image_has = given.image_is.size; out_has = w.kept.image.size; agree = agree }
 
     -- Answer 0.
     pub found : r ≡ true → (answer : Result) → answer ≡ mended sh (cells sh image) (cells sh after) (λ _. none) → Repairs sh flag image out answer after

@@ -1,20 +1,20 @@
 -- What the steps of repair with flags by stretch ask and give.
 use Rattle.std.specs.Prelude.{◌≡◌, true, List, [], ◌∷◌, ℕ, ◌<◌, length}
-use Rattle.code.specs.Record.{TrackSet, Shape, tracks, track_length}
+use Rattle.code.specs.declared.sizes.TrackSet.{TrackSet}
+use Rattle.code.specs.Record.{Shape, tracks, track_length}
 use Rattle.code.specs.Image.{image_size, cells}
 use Rattle.code.specs.Flags.{CellFlags, AgreeOff}
 use Rattle.code.specs.Spans.{Table, span_flags, Broken}
 use Rattle.code.specs.Numbers.{window_check}
 use Rattle.code.specs.Calls.{Result, Answered, Repairs}
-use Rattle.code.specs.Sizes.{shape, Small}
-use Rattle.code.specs.declared.Sizes.{Sizes}
+use Rattle.code.specs.Sizes.{shape}
+use Rattle.code.specs.declared.sizes.Sizes.{Sizes}
 use Rattle.track.proofs.Lost.{LostCovered}
 use Rattle.flags.specs.Marks.{ReadImage}
 use Rattle.flags.specs.Words.{word_cells, Windows}
 
 -- An image with a table of pairs that is not broken. Stretches keep the closed tail.
 pub record Tabled (z : Sizes) (table : Table) (image : List ℕ) : Type 0 where
-  pub small : Small z
   pub closed : z.closed ≡ true
   pub sound : Broken (image_size (shape z)) table → ⊥
   pub image_is : ReadImage (shape z) image
@@ -26,7 +26,6 @@ pub record CellsFlagged (sh : Shape) (table : Table) (image words : List ℕ) : 
 
 -- An image, an output of its size, and flagged cells with their windows, the lost ones among them.
 pub record Given (z : Sizes) (words near image out : List ℕ) : Type 0 where
-  pub small : Small z
   pub closed : z.closed ≡ true
   pub image_is : ReadImage (shape z) image
   pub covered : LostCovered (shape z) (word_cells (shape z) words) image
@@ -35,7 +34,6 @@ pub record Given (z : Sizes) (words near image out : List ℕ) : Type 0 where
 
 -- An image and an output that differ in flagged cells at the most.
 pub record OnlyFlagged (z : Sizes) (words image out : List ℕ) : Type 0 where
-  pub small : Small z
   pub image_has : length image ≡ image_size (shape z)
   pub out_has : length out ≡ image_size (shape z)
   pub agree : AgreeOff (shape z) (word_cells (shape z) words) (cells (shape z) image) (cells (shape z) out)

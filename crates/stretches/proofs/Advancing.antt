@@ -4,27 +4,30 @@ use mathlib.Core.Logic.{by_cases}
 use mathlib.Core.Bool.{Bool, true, false, true≢false}
 use mathlib.Core.List.{List}
 use Prim.Native.Nat.{ℕ, ◌+◌, ◌<◌, ◌≤◌}
-use native.Mathlib.Decide.{ℕ_discrete, dec_lt}
+use native.Mathlib.Decide.{dec_lt}
 use native.Mathlib.Omega.{arith}
 use lib.ListN.{get_or}
-use Rattle.code.specs.Record.{TrackSet, A, B, other, Shape, tracks, track_length, Cells, Good}
+use Rattle.std.specs.Prelude.{Option, Some, None}
+use Rattle.code.specs.declared.sizes.TrackSet.{TrackSet}
+use Rattle.code.specs.declared.sizes.TrackSet.TheVariants.{A, B}
+use Rattle.code.specs.Record.{other, Shape, tracks, track_length, Cells, Good}
 use Rattle.code.specs.Image.{cells}
 use Rattle.code.specs.Flags.{CellFlags, word_flags, flag_count, AgreeOff}
-use Rattle.code.specs.Sizes.{shape, Small}
-use Rattle.code.specs.declared.Sizes.{Sizes}
+use Rattle.code.specs.Sizes.{shape}
+use Rattle.code.specs.declared.sizes.Sizes.{Sizes}
 use Rattle.code.proofs.Linear.{good_same}
 use Rattle.code.proofs.Patterns.{in_each}
-use Rattle.syndrome.specs.Syndrome.{set_of, Kept, Tested}
+use Rattle.syndrome.specs.Syndrome.{Kept, Tested}
 use Rattle.solver.specs.declared.Plan.{Plan}
 use Rattle.solver.specs.Solver.{marked, Single, plan_of}
 use Rattle.solver.specs.Steps.{Still, Known, Stepped, Others, Ahead}
 use Rattle.solver.proofs.Stepping.{still_both, still_known}
+use Rattle.solver.proofs.Sets.{no_track, track_is}
 use Rattle.flags.specs.Marks.{Marks}
-use Rattle.flags.specs.Words.{word_cells}
-use Rattle.code.proofs.Same.{count_same}
+use Rattle.flags.specs.Words.{word_cells, Windows}
 use Rattle.stretches.specs.Stretches.{Solved}
-use Rattle.stretches.specs.Steps.{flags_at, OneTrack, PlanAt, Suits, Ready, Advanced, OnesTo, AllTo, OnesWord, SetRun, AllRun, AllWord}
-use Rattle.stretches.proofs.Planning.{plan_single, zero_flags, suits_at, marks_at, one_same}
+use Rattle.stretches.specs.Steps.{RunEnd, flags_at, OneTrack, PlanAt, Suits, Ready, Advanced, OnesTo, AllTo, Passed, RunSolved, SetRun, AllRun}
+use Rattle.stretches.proofs.Planning.{plan_single, zero_flags, suits_at, word_at, marks_at}
 
 -- What is right stays right.
 still_ready : {sh : Shape} {flag : CellFlags} {y x x' : Cells} {n m : ℕ} → n ≤ track_length sh → m ≤ track_length sh → Still sh y x x' →
@@ -65,36 +68,38 @@ ones_clear {from = from} k h none = record {
 
 -- ## One flagged cell
 
-module _ {z : Sizes} {flag : CellFlags} {s t from to : ℕ} {out after syn : List ℕ} (h : to ≤ track_length (shape z))
-    (one : (q : ℕ) → from ≤ q → q < to → OneTrack (shape z) (flags_at flag q) (set_of s) t) (w : Ahead z s t from to out after syn) where
+module _ {z : Sizes} {flag : CellFlags} {s : TrackSet} {track : Option ℕ} {from to : ℕ} {out after syn : List ℕ} (h : to ≤ track_length (shape z))
+    (one : (q : ℕ) → from ≤ q → q < to → OneTrack (shape z) (flags_at flag q) s track) (w : Ahead z s track from to out after syn) where
   -- Only flagged cells are changed.
   one_only : AgreeOff (shape z) flag (cells (shape z) out) (cells (shape z) after)
   one_only = record {
-    cell = λ c u q l b e. sym (w.only c u q l b (λ i j a k. true≢false (sym ((one q a k).flagged (rw (i, j) at l)) ∙ (rw (i, j) at e))));
+    cell = λ c u q l b e. sym (w.only c u q l b (λ i j a k. true≢false (sym ((one q a k).flagged u j) ∙ (rw i at e))));
   }
 
   module _ (y : Cells) (good : Good (shape z) y) (clear : AgreeOff (shape z) flag (cells (shape z) out) y) where
     -- Beside the one flagged cell all cells of the set are right.
-    one_others : t < tracks (shape z) (set_of s) → Others z s t from to y out
-    one_others l u q i a b d = clear.cell (set_of s) u q i (omega arith) ((one q a b).others ((one q a b).one l) u i d)
+    one_others : {t : ℕ} → track ≡ Some t → Others z s track from to y out
+    one_others {t} e u q i a b d = clear.cell s u q i (omega arith) ((one q a b).others ((one q a b).one t e) u i d)
 
     -- So what is right stays right.
     one_still : Still (shape z) y (cells (shape z) out) (cells (shape z) after)
-    one_still = by_cases (dec_lt t (tracks (shape z) (set_of s)))
-        (λ l. w.still y good (one_others l))
-        (λ n. record { cell = λ c u q l b e. w.only c u q l b (λ i j _ _. n (rw (i, j) at l)) ∙ e })
+    one_still = go track refl
+      where
+        go : (v : Option ℕ) → track ≡ v → Still (shape z) y (cells (shape z) out) (cells (shape z) after)
+        go None e = record { cell = λ c u q l b i. w.only c u q l b (λ _ j _ _. no_track e j) ∙ i }
+        go (Some t) e = w.still y good (one_others e)
 
     -- And the set is right where it has one flagged cell at the most.
-    one_set : (u q : ℕ) → u < tracks (shape z) (set_of s) → from ≤ q → q < to → flag_count (shape z) (flags_at flag q) (set_of s) ≤ 1 →
-        cells (shape z) after (set_of s) u q ≡ y (set_of s) u q
-    one_set u q l a b c = by_cases (ℕ_discrete u t)
-        (λ e. rw e (w.right y good (one_others (rw e at l)) (rw e at l) q a b))
-        (λ d. one_still.cell (set_of s) u q l (omega arith) (clear.cell (set_of s) u q l (omega arith) ((one q a b).others c u l d)))
+    one_set : (u q : ℕ) → u < tracks (shape z) s → from ≤ q → q < to → flag_count (shape z) (flags_at flag q) s ≤ 1 →
+        cells (shape z) after s u q ≡ y s u q
+    one_set u q l a b c = by_cases (track_is track u)
+        (λ e. w.right y good (one_others e) u e l q a b)
+        (λ d. one_still.cell s u q l (omega arith) (clear.cell s u q l (omega arith) ((one q a b).others c u l d)))
 
 -- Both sets.
-ones_ahead : {z : Sizes} {flag : CellFlags} {a b from to : ℕ} {o₀ o₁ o₂ k₁ k₂ : List ℕ} → to ≤ track_length (shape z) →
+ones_ahead : {z : Sizes} {flag : CellFlags} {a b : Option ℕ} {from to : ℕ} {o₀ o₁ o₂ k₁ k₂ : List ℕ} → to ≤ track_length (shape z) →
     ((q : ℕ) → from ≤ q → q < to → OneTrack (shape z) (flags_at flag q) A a) → ((q : ℕ) → from ≤ q → q < to → OneTrack (shape z) (flags_at flag q) B b) →
-    Ahead z 0 a from to o₀ o₁ k₁ → Ahead z 1 b from to o₁ o₂ k₂ → OnesTo z flag from to o₀ o₂ k₂
+    Ahead z A a from to o₀ o₁ k₁ → Ahead z B b from to o₁ o₂ k₂ → OnesTo z flag from to o₀ o₂ k₂
 ones_ahead {z} {flag} {a} {b} {from} {to} {o₀} {o₁} {o₂} h one two v w = record {
   kept = w.kept;
   only = record { cell = λ s t q l i e. (one_only {flag = flag} h one v).cell s t q l i e ∙ (one_only {flag = flag} h two w).cell s t q l i e };
@@ -129,11 +134,11 @@ known {sh} {flag} {s} {p} {y} {x} {m} b u r = record {
       (λ c. r.clear.cell s t m l b (u.rest c t l n))
       (λ c. r.ones s t m l b (omega arith));
   clear = λ d c t q l e h k. r.clear.cell c t q l (omega arith) (u.clear d c t q l e h k);
-  across = λ d h t q l i k. r.ones (other s) t q l (omega arith) (u.across d h q i k);
+  across = λ d j h t q l i k. r.ones (other s) t q l (omega arith) (u.across d j h q i k);
 }
 
 -- Only flagged cells are changed.
-step_only : {z : Sizes} {flag : CellFlags} {s : ℕ} {p : Plan} {m : ℕ} {out after syn : List ℕ} → Suits (shape z) flag (set_of s) m p → Stepped z s p m out after syn →
+step_only : {z : Sizes} {flag : CellFlags} {s : TrackSet} {p : Plan} {m : ℕ} {out after syn : List ℕ} → Suits (shape z) flag s m p → Stepped z s p m out after syn →
     AgreeOff (shape z) flag (cells (shape z) out) (cells (shape z) after)
 step_only u w = record {
   cell = λ c t q l b e. sym (w.only c t q l b (λ i j k. true≢false (sym (u.flagged t (rw i at l) j) ∙ (rw (i, k) at e))));
@@ -141,7 +146,7 @@ step_only u w = record {
 
 -- Both sets at one position more.
 all_more : {z : Sizes} {flag : CellFlags} {a b : Plan} {from m : ℕ} {o₀ o₁ o₂ o₃ k₁ k₂ k₃ : List ℕ} → m < track_length (shape z) →
-    ((s : TrackSet) → Suits (shape z) flag s m (plan_of a b s)) → AllTo z flag from m o₀ o₁ k₁ → Stepped z 0 a m o₁ o₂ k₂ → Stepped z 1 b m o₂ o₃ k₃ →
+    ((s : TrackSet) → Suits (shape z) flag s m (plan_of a b s)) → AllTo z flag from m o₀ o₁ k₁ → Stepped z A a m o₁ o₂ k₂ → Stepped z B b m o₂ o₃ k₃ →
     AllTo z flag from (m + 1) o₀ o₃ k₃
 all_more {z} {flag} {a} {b} {from} {m} {o₀} {o₁} {o₂} {o₃} h suits done v w = record {
   kept = w.kept;
@@ -168,7 +173,7 @@ pub all_run_none : {z : Sizes} {a b : Plan} {from : ℕ} {out syn : List ℕ} �
 all_run_none k = record { kept = k; advanced = λ flag h c. advanced_none k }
 
 pub all_run_more : {z : Sizes} {a b : Plan} {from m : ℕ} {o₀ o₁ o₂ o₃ k₁ k₂ k₃ : List ℕ} → from ≤ m → m < track_length (shape z) → AllRun z a b from m o₀ o₁ k₁ →
-    Stepped z 0 a m o₁ o₂ k₂ → Stepped z 1 b m o₂ o₃ k₃ → AllRun z a b from (m + 1) o₀ o₃ k₃
+    Stepped z A a m o₁ o₂ k₂ → Stepped z B b m o₂ o₃ k₃ → AllRun z a b from (m + 1) o₀ o₃ k₃
 all_run_more {m = m} i h r v w = record {
   kept = w.kept;
   advanced = λ flag suits ones. all_more h (λ s. suits s m i (omega arith))
@@ -183,8 +188,8 @@ by_set P A p q = in_each P p q
 by_set P B p q = in_each P q p
 
 -- It at one position more, where the other has one flagged cell at the most.
-set_more : {z : Sizes} {flag : CellFlags} {s : ℕ} {p : Plan} {from m : ℕ} {o₀ o₁ o₂ k₁ k₂ : List ℕ} → m < track_length (shape z) →
-    Suits (shape z) flag (set_of s) m p → flag_count (shape z) (flags_at flag m) (other (set_of s)) ≤ 1 → AllTo z flag from m o₀ o₁ k₁ → Stepped z s p m o₁ o₂ k₂ →
+set_more : {z : Sizes} {flag : CellFlags} {s : TrackSet} {p : Plan} {from m : ℕ} {o₀ o₁ o₂ k₁ k₂ : List ℕ} → m < track_length (shape z) →
+    Suits (shape z) flag s m p → flag_count (shape z) (flags_at flag m) (other s) ≤ 1 → AllTo z flag from m o₀ o₁ k₁ → Stepped z s p m o₁ o₂ k₂ →
     AllTo z flag from (m + 1) o₀ o₂ k₂
 set_more {z} {flag} {s} {p} {from} {m} {o₀} {o₁} {o₂} h suits one done v = record {
   kept = v.kept;
@@ -198,7 +203,7 @@ set_more {z} {flag} {s} {p} {from} {m} {o₀} {o₁} {o₂} h suits one done v =
         let v' = v.made suits.window y suits.fits r.good (known h suits r) in
         let r₂ = still_ready (omega arith) (omega arith) v'.still r in
         let now : (c : TrackSet) (t : ℕ) → t < tracks (shape z) c → cells (shape z) o₂ c t m ≡ y c t m =
-        by_set (λ c. (t : ℕ) → t < tracks (shape z) c → cells (shape z) o₂ c t m ≡ y c t m) (set_of s) v'.cell (λ t l. r₂.ones (other (set_of s)) t m l h one) in
+        by_set (λ c. (t : ℕ) → t < tracks (shape z) c → cells (shape z) o₂ c t m ≡ y c t m) s v'.cell (λ t l. r₂.ones (other s) t m l h one) in
         record {
           good = r₂.good;
           clear = r₂.clear;
@@ -206,10 +211,10 @@ set_more {z} {flag} {s} {p} {from} {m} {o₀} {o₁} {o₂} h suits one done v =
           before = λ c t q l i. by_cases (dec_lt q m) (λ k. r₂.before c t q l k) (λ k. let e : q ≡ m = omega arith in rw e (now c t l));
         }
 
-pub set_run_none : {z : Sizes} {s : ℕ} {p : Plan} {from : ℕ} {out syn : List ℕ} → Kept z out syn → SetRun z s p from from out out syn
+pub set_run_none : {z : Sizes} {s : TrackSet} {p : Plan} {from : ℕ} {out syn : List ℕ} → Kept z out syn → SetRun z s p from from out out syn
 set_run_none k = record { kept = k; advanced = λ flag h c. advanced_none k }
 
-pub set_run_more : {z : Sizes} {s : ℕ} {p : Plan} {from m : ℕ} {o₀ o₁ o₂ k₁ k₂ : List ℕ} → from ≤ m → m < track_length (shape z) → SetRun z s p from m o₀ o₁ k₁ →
+pub set_run_more : {z : Sizes} {s : TrackSet} {p : Plan} {from m : ℕ} {o₀ o₁ o₂ k₁ k₂ : List ℕ} → from ≤ m → m < track_length (shape z) → SetRun z s p from m o₀ o₁ k₁ →
     Stepped z s p m o₁ o₂ k₂ → SetRun z s p from (m + 1) o₀ o₂ k₂
 set_run_more {m = m} i h r v = record {
   kept = v.kept;
@@ -218,25 +223,38 @@ set_run_more {m = m} i h r v = record {
 }
 
 -- Beside a plan of one track it is all.
-pub all_of_a : {z : Sizes} {a b : Plan} {from to : ℕ} {out after syn : List ℕ} → Single (shape z) B b → SetRun z 0 a from to out after syn → AllRun z a b from to out after syn
+pub all_of_a : {z : Sizes} {a b : Plan} {from to : ℕ} {out after syn : List ℕ} → Single b → SetRun z A a from to out after syn → AllRun z a b from to out after syn
 all_of_a e r = record { kept = r.kept; advanced = λ flag suits ones. r.advanced flag (suits A) (ones B e) }
 
-pub all_of_b : {z : Sizes} {a b : Plan} {from to : ℕ} {out after syn : List ℕ} → Single (shape z) A a → SetRun z 1 b from to out after syn → AllRun z a b from to out after syn
+pub all_of_b : {z : Sizes} {a b : Plan} {from to : ℕ} {out after syn : List ℕ} → Single a → SetRun z B b from to out after syn → AllRun z a b from to out after syn
 all_of_b e r = record { kept = r.kept; advanced = λ flag suits ones. r.advanced flag (suits B) (ones A e) }
 
 -- ## Runs of words
 
--- Without a flagged cell.
-pub ones_word_none : {z : Sizes} {word from to : ℕ} {out syn : List ℕ} → Kept z out syn → to ≤ track_length (shape z) → word ≡ 0 → OnesWord z word from to out out syn
-ones_word_none {z} {word} k h e = record {
+-- The first pass, over a run without a flagged cell.
+pub first_none : {z : Sizes} {word wide from to : ℕ} {out syn : List ℕ} → Kept z out syn → to ≤ track_length (shape z) → word ≡ 0 →
+    RunSolved (λ q. q) (λ q. 0) z word wide from to out out syn
+first_none {z} k h e = record {
   kept = k;
-  advanced = λ words alike. ones_clear k h (λ s t q a b. zero_flags (shape z) (get_or words q 0) (alike q a b ∙ e) s t);
+  advanced = λ words near w alike. ones_clear k h (λ s t q a b. zero_flags (shape z) (get_or words q 0) (alike.word_at q a b ∙ e) s t);
 }
 
--- With one flagged cell a set at the most.
-pub all_word_ones : {z : Sizes} {word wide from to : ℕ} {out syn : List ℕ} → Kept z out syn → to ≤ track_length (shape z) →
-    ((s : TrackSet) → flag_count (shape z) (word_flags (shape z) word) s ≤ 1) → AllWord z word wide from to out out syn
-all_word_ones {z} {word} {wide} {from} k h few = record {
+-- With the tracks of the word.
+pub first_run : {z : Sizes} {word wide : ℕ} {a b : Option ℕ} {from to : ℕ} {o₀ o₁ o₂ k₁ k₂ : List ℕ} → to ≤ track_length (shape z) →
+    OneTrack (shape z) (word_flags (shape z) word) A a → OneTrack (shape z) (word_flags (shape z) word) B b →
+    Ahead z A a from to o₀ o₁ k₁ → Ahead z B b from to o₁ o₂ k₂ → RunSolved (λ q. q) (λ q. 0) z word wide from to o₀ o₂ k₂
+first_run {z} {word} {a = a} {b = b} h u v p r = record {
+  kept = r.kept;
+  advanced = λ words near w alike. ones_ahead h
+      (λ q i l. subst (λ (k : ℕ). OneTrack (shape z) (word_flags (shape z) k) A a) (sym (alike.word_at q i l)) u)
+      (λ q i l. subst (λ (k : ℕ). OneTrack (shape z) (word_flags (shape z) k) B b) (sym (alike.word_at q i l)) v) p r;
+}
+
+-- The second pass, over a run with one flagged cell a set at the most.
+pub second_none : {z : Sizes} {word wide from to : ℕ} {out syn : List ℕ} → Kept z out syn → to ≤ track_length (shape z) →
+    ((s : TrackSet) → flag_count (shape z) (word_flags (shape z) word) s ≤ 1) →
+    RunSolved (λ q. track_length (shape z)) (λ q. q) z word wide from to out out syn
+second_none {z} {word} {wide} {from} k h few = record {
   kept = k;
   advanced = λ words near w alike. record {
     kept = k;
@@ -251,34 +269,27 @@ all_word_ones {z} {word} {wide} {from} k h few = record {
   };
 }
 
--- With the tracks and plans of their marks.
-pub ones_word_run : {z : Sizes} {word a b from to : ℕ} {marks o₀ o₁ o₂ k₁ k₂ : List ℕ} → Small z → to ≤ track_length (shape z) → Marks word marks →
-    OneTrack (shape z) (marked (shape z) marks) A a → OneTrack (shape z) (marked (shape z) marks) B b →
-    Ahead z 0 a from to o₀ o₁ k₁ → Ahead z 1 b from to o₁ o₂ k₂ → OnesWord z word from to o₀ o₂ k₂
-ones_word_run {z} {word} {marks = marks} small h m u v p r = record {
+-- With the plans of the words.
+pub second_run : {z : Sizes} {word wide : ℕ} {a b : Plan} {from to : ℕ} {nears : List Bool} {out after syn : List ℕ} → z.closed ≡ true → to ≤ track_length (shape z) →
+    Marks wide nears → PlanAt (shape z) (word_flags (shape z) word) (marked (shape z) nears) A a →
+    PlanAt (shape z) (word_flags (shape z) word) (marked (shape z) nears) B b → AllRun z a b from to out after syn →
+    RunSolved (λ q. track_length (shape z)) (λ q. q) z word wide from to out after syn
+second_run {z} {word} {wide} {a} {b} {nears = nears} closed h n u v r = record {
   kept = r.kept;
-  advanced = λ words alike.
-      ones_ahead h (λ q i l. one_same (marks_at z word marks small m words q (alike q i l)) u) (λ q i l. one_same (marks_at z word marks small m words q (alike q i l)) v) p r;
-}
-
-pub all_word_run : {z : Sizes} {word wide : ℕ} {a b : Plan} {from to : ℕ} {marks nears out after syn : List ℕ} → Small z → z.closed ≡ true → to ≤ track_length (shape z) →
-    Marks word marks → Marks wide nears → PlanAt (shape z) (marked (shape z) marks) (marked (shape z) nears) A a →
-    PlanAt (shape z) (marked (shape z) marks) (marked (shape z) nears) B b → AllRun z a b from to out after syn → AllWord z word wide from to out after syn
-all_word_run {z} {word} {wide} {a} {b} {marks = marks} {nears = nears} small closed h m n u v r = record {
-  kept = r.kept;
-  advanced = λ words near w alike. r.advanced (word_cells (shape z) words) (λ s q i l.
-      suits_at z words near small closed w q (omega arith) (marked (shape z) marks) (marked (shape z) nears)
-      (marks_at z word marks small m words q (alike.word_at q i l)) (marks_at z wide nears small n near q (alike.near_at q i l)) s (plan_of a b s)
-      (planned s)) (λ s e q i l.
-      omega (
-        arith,
-        plan_single (planned s) e,
-        count_same (shape z) (marked (shape z) marks) (flags_at (word_cells (shape z) words) q) (marks_at z word marks small m words q (alike.word_at q i l)) s,
-      ));
+  advanced = λ words near w alike. r.advanced (word_cells (shape z) words)
+      (λ s q i l. suits_at z words near closed w q (omega arith) (word_flags (shape z) word) (marked (shape z) nears)
+      (word_at (shape z) word words q (alike.word_at q i l)) (marks_at z wide nears n near q (alike.near_at q i l)) s (plan_of a b s) (planned s))
+      (λ s e q i l. subst (λ (v : ℕ). flag_count (shape z) (word_flags (shape z) v) s ≤ 1) (sym (alike.word_at q i l)) (plan_single (planned s) e));
 }
   where
-    planned : (s : TrackSet) → PlanAt (shape z) (marked (shape z) marks) (marked (shape z) nears) s (plan_of a b s)
-    planned = in_each (λ s. PlanAt (shape z) (marked (shape z) marks) (marked (shape z) nears) s (plan_of a b s)) u v
+    planned : (s : TrackSet) → PlanAt (shape z) (word_flags (shape z) word) (marked (shape z) nears) s (plan_of a b s)
+    planned = in_each (λ s. PlanAt (shape z) (word_flags (shape z) word) (marked (shape z) nears) s (plan_of a b s)) u v
+
+-- One run more.
+pub pass_more : {z : Sizes} {ones all : ℕ → ℕ} {words near : List ℕ} {from m to end : ℕ} {o₀ o₁ o₂ k₁ k₂ : List ℕ} → Windows (shape z) words near →
+    RunEnd words near m end to → Passed ones all z (word_cells (shape z) words) from m o₀ o₁ k₁ →
+    RunSolved ones all z (get_or words m 0) (get_or near m 0) m to o₁ o₂ k₂ → Passed ones all z (word_cells (shape z) words) from to o₀ o₂ k₂
+pass_more {words = words} {near = near} w k v r = advanced_join v (r.advanced words near w k.alike)
 
 -- ## The whole way
 

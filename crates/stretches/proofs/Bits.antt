@@ -1,7 +1,7 @@
 -- Words of which at most one bit is 1.
 use mathlib.Core.Path.{◌≡◌, refl, sym, ap, ◌∙◌}
 use mathlib.Core.Logic.{◌≢◌, by_cases}
-use mathlib.Core.Bool.{Bool, true, false, true≢false}
+use mathlib.Core.Bool.{Bool, true, false}
 use Prim.Native.Nat.{ℕ, zero, suc, ◌+◌, ◌*◌, ◌-◌, ◌/◌, ◌%◌, ◌^◌, ◌<◌, ◌≤◌}
 use native.Mathlib.Nat.{zero-div, mod-lt, one-mul}
 use native.Mathlib.Decide.{dec_lt}
@@ -10,7 +10,8 @@ use borrow.Author.Tests.{eqb-true}
 use lib.Dec.{eqb}
 use lib.Bits.{bit_and, and_shr, and_self}
 use lib.Pow.{pow_pos, shl_exact, shr-shr, split, high, field, mod-mod-pow}
-use Rattle.code.specs.Record.{TrackSet, A, B, Shape, tracks, sum}
+use Rattle.code.specs.declared.sizes.TrackSet.TheVariants.{A, B}
+use Rattle.code.specs.Record.{Shape, tracks, sum}
 use Rattle.code.specs.Flags.{bit, word_flags, flag_count}
 use Rattle.code.proofs.Sums.{sum_zero}
 use Rattle.stretches.specs.Steps.{OneBit, AtMostOne}
@@ -71,25 +72,22 @@ pairs_one (suc n) f h = go (f n) refl (pairs_one n f (λ u t i l. h u t i (omega
 one_shifted : (g : ℕ) → g < 32 → 1 * 2 ^ g % 2 ^ 32 ≡ 2 ^ g
 one_shifted g h = shl_exact 1 g 32 (omega arith) (omega arith) ∙ one-mul (2 ^ g)
 
--- It is not 0.
-pub shifted_some : (g : ℕ) → g < 32 → 0 < 1 * 2 ^ g % 2 ^ 32
-shifted_some g h = omega (arith, one_shifted g h, pow_pos g)
-
 -- The bits from a on are those of B, and the others those of A.
-pub sets_one : {q r : Bool} (sh : Shape) (word a : ℕ) → a ≡ tracks sh A → a < 32 → q ≡ true → OneBit (word / 2 ^ a) q → OneBit (word % (1 * 2 ^ a % 2 ^ 32)) r → AtMostOne sh word r
-unfolding flag_count
-sets_one {q} {r} sh word a e k i b c = record { most = go }
-  where
-    low : (u : ℕ) → u < a → word % (1 * 2 ^ a % 2 ^ 32) / 2 ^ u % 2 ≡ word / 2 ^ u % 2
-    low u l = ap (λ (p : ℕ). word % p / 2 ^ u % 2) (one_shifted a k) ∙ bit_mod word a u l
+module _ {r : Bool} (sh : Shape) (word a : ℕ) (e : a ≡ tracks sh A) where
+  pub low_one : a < 32 → OneBit (word % (1 * 2 ^ a % 2 ^ 32)) r → AtMostOne sh word A r
+  unfolding flag_count
+  low_one k c = record {
+    most = λ j. pairs_one (tracks sh A) (word_flags sh word A) (λ u t h l f g. c.one j u t h (low u (omega arith) ∙ eqb-true _ _ f) (low t (omega arith) ∙ eqb-true _ _ g));
+  }
+    where
+      low : (u : ℕ) → u < a → word % (1 * 2 ^ a % 2 ^ 32) / 2 ^ u % 2 ≡ word / 2 ^ u % 2
+      low u l = ap (λ (p : ℕ). word % p / 2 ^ u % 2) (one_shifted a k) ∙ bit_mod word a u l
 
-    up : (u : ℕ) → word / 2 ^ a / 2 ^ u % 2 ≡ word / 2 ^ (tracks sh A + u) % 2
-    up u = ap (λ (v : ℕ). v % 2) (shr-shr word a u) ∙ ap (λ (v : ℕ). word / 2 ^ (v + u) % 2) e
-
-    go : r ≡ true → (s : TrackSet) → flag_count sh (word_flags sh word) s ≤ 1
-    go j A = pairs_one (tracks sh A) (word_flags sh word A) (λ u t h l f g. c.one j u t h (low u (omega arith) ∙ eqb-true _ _ f) (low t (omega arith) ∙ eqb-true _ _ g))
-    go j B = pairs_one (tracks sh B) (word_flags sh word B) (λ u t h l f g. b.one i u t h (up u ∙ eqb-true _ _ f) (up t ∙ eqb-true _ _ g))
-
--- False says nothing.
-pub none_said : {sh : Shape} {word : ℕ} → AtMostOne sh word false
-none_said = record { most = λ e. absurd (true≢false (sym e)) }
+  pub high_one : OneBit (word / 2 ^ a) r → AtMostOne sh word B r
+  unfolding flag_count
+  high_one b = record {
+    most = λ j. pairs_one (tracks sh B) (word_flags sh word B) (λ u t h l f g. b.one j u t h (up u ∙ eqb-true _ _ f) (up t ∙ eqb-true _ _ g));
+  }
+    where
+      up : (u : ℕ) → word / 2 ^ a / 2 ^ u % 2 ≡ word / 2 ^ (tracks sh A + u) % 2
+      up u = ap (λ (v : ℕ). v % 2) (shr-shr word a u) ∙ ap (λ (v : ℕ). word / 2 ^ (v + u) % 2) e

@@ -1,31 +1,35 @@
 -- The words of a position and of its window, and the plans that they make.
 use mathlib.Core.Path.{◌≡◌, refl, sym, ap, ◌∙◌}
-use mathlib.Core.Logic.{◌≢◌, by_cases}
+use mathlib.Core.Logic.{by_cases}
 use mathlib.Core.Bool.{Bool, true, false, true≢false}
 use mathlib.Core.List.{List}
-use Prim.Native.Nat.{ℕ, ◌+◌, ◌-◌, ◌^◌, ◌<◌, ◌≤◌}
-use native.Mathlib.Decide.{ℕ_discrete, dec_lt}
+use Prim.Native.Nat.{ℕ, suc, ◌+◌, ◌-◌, ◌^◌, ◌<◌, ◌≤◌}
+use native.Mathlib.Decide.{dec_lt}
 use native.Mathlib.Nat.{zero-div}
 use native.Mathlib.Omega.{arith}
-use borrow.Author.Tests.{eqb-true, eq-eqb}
-use lib.ListN.{length, get_or}
-use Rattle.code.specs.Record.{TrackSet, A, B, other, closed_tail, Shape, tracks, track_length}
+use lib.ListN.{get_or}
+use Rattle.std.specs.Prelude.{Option, Some, None, is_some}
+use Rattle.code.specs.declared.sizes.TrackSet.{TrackSet}
+use Rattle.code.specs.declared.sizes.TrackSet.TheVariants.{A, B}
+use Rattle.code.specs.Record.{other, closed_tail, Shape, tracks, track_length, sum}
 use Rattle.code.specs.Flags.{TrackFlags, bit, word_flags, flag_count, Within}
-use Rattle.code.specs.Image.{track_number, all_tracks}
+use Rattle.code.specs.Image.{track_number}
 use Rattle.code.specs.Spans.{window}
-use Rattle.code.specs.Sizes.{shape, Small}
-use Rattle.code.specs.declared.Sizes.{Sizes}
+use Rattle.code.specs.Sizes.{shape}
+use Rattle.code.specs.declared.sizes.Sizes.{Sizes}
 use Rattle.code.proofs.Closings.{is_closed}
 use Rattle.code.proofs.Codes.{code_within}
-use Rattle.code.proofs.Patterns.{none_flagged}
+use Rattle.code.proofs.Patterns.{but_for, none_flagged}
 use Rattle.code.proofs.Sums.{sum_zero, sum_le, sum_one}
 use Rattle.solver.specs.declared.Plan.{Plan}
 use Rattle.solver.specs.Solver.{Named, is_low, is_high, is_last, marked, Planned, Fills, Single}
+use Rattle.solver.proofs.Plans.{count, count_le}
+use Rattle.solver.proofs.Sets.{same_track, no_track, none_of}
 use Rattle.flags.specs.Marks.{Marks}
 use Rattle.flags.specs.Words.{word_cells, Windows}
 use Rattle.code.proofs.Same.{SameFlags, count_same}
 use Rattle.flags.proofs.Bits.{marks_same}
-use Rattle.stretches.specs.Steps.{flags_at, Alike, Few, InWindow, Below, OneTrack, IfFlagged, PlanAt, Suits}
+use Rattle.stretches.specs.Steps.{flags_at, Alike, InWindow, Below, OneTrack, IfFlagged, PlanAt, Suits}
 
 -- ## Runs
 
@@ -43,15 +47,6 @@ alike_more {words} {near} {word} {wide} {from} {m} a e d = record {
 }
 
 -- ## Counts
-
--- 16 is past every track.
-pub past_tracks : (z : Sizes) → Small z → (s : TrackSet) → tracks (shape z) s ≤ 16
-past_tracks z small A = omega (arith, small.t1_small)
-past_tracks z small B = omega (arith, small.t2_small)
-
--- A number that is not below.
-not_below : (a n : ℕ) → (a < n → ⊥) → n ≤ a
-not_below a n h = by_cases (dec_lt a n) (λ l. absurd (h l)) (λ d. omega arith)
 
 -- A flag that cannot be on is off.
 not_on : (b : Bool) → (b ≡ true → ⊥) → b ≡ false
@@ -72,121 +67,140 @@ count_below sh f g s h = sum_le (tracks sh s) _ _ (λ t l. go (f s t) (g s t) (h
     go a false k = rw (k refl) (omega arith)
 
 -- Where all tracks but one are clear, one is flagged at the most.
-count_one : (sh : Shape) (f : TrackFlags) (s : TrackSet) (u : ℕ) → ((t : ℕ) → t < tracks sh s → t ≢ u → f s t ≡ false) → flag_count sh f s ≤ 1
+count_one : (sh : Shape) (f : TrackFlags) (s : TrackSet) (track : Option ℕ) → ((t : ℕ) → t < tracks sh s → (track ≡ Some t → ⊥) → f s t ≡ false) → flag_count sh f s ≤ 1
 unfolding flag_count
-count_one sh f s u h = by_cases (dec_lt u (tracks sh s))
-    (λ l. omega (arith, sum_one (tracks sh s) u (λ t. bit (f s t)) l (λ t k d. ap bit (h t k d)), bit_small (f s u)))
-    (λ d. omega (arith, sum_zero (tracks sh s) (λ t. bit (f s t)) (λ t k. ap bit (h t k (omega arith)))))
+count_one sh f s None h = omega (arith, sum_zero (tracks sh s) (λ t. bit (f s t)) (λ t k. ap bit (h t k (no_track refl))))
+count_one sh f s (Some u) h = by_cases (dec_lt u (tracks sh s))
+    (λ l. omega (arith, sum_one (tracks sh s) u (λ t. bit (f s t)) l (λ t k d. ap bit (h t k (λ e. d (sym (same_track refl e))))), bit_small (f s u)))
+    (λ d. omega (arith, sum_zero (tracks sh s) (λ t. bit (f s t)) (λ t k. ap bit (h t k (λ e. d (omega (arith, same_track refl e)))))))
 
--- ## Plans of one track
+-- A plan of one track at the most names no other track.
+single_named : {p : Plan} {t : ℕ} → Single p → (p.last ≡ Some t → ⊥) → Named p t → ⊥
+single_named one d (is_low e) = no_track one.no_low e
+single_named one d (is_high e) = no_track one.no_high e
+single_named one d (is_last e) = d e
 
-module _ (sh : Shape) (f : TrackFlags) (s : TrackSet) (p : Plan) (plan : Planned sh f s p) where
-  -- In a plan of one track all others are clear.
-  single_others : Single sh s p → (u : ℕ) → u < tracks sh s → u ≢ p.last → f s u ≡ false
-  single_others one u l d = plan.others u l none
-    where
-      none : Named p u → ⊥
-      none (is_low e) = omega (arith, one.no_low)
-      none (is_high e) = omega (arith, one.no_high)
-      none (is_last e) = d e
+-- Where two tracks are flagged there are two at least.
+two_at_least : (g : ℕ → Bool) (u t n : ℕ) → u < t → t < n → g u ≡ true → g t ≡ true → 2 ≤ count n g
+unfolding sum
+two_at_least g u t n h k a b = omega (arith, ap bit a, ap bit b, count_le g (suc u) t (omega arith), count_le g (suc t) n (omega arith))
 
-  single_count : Single sh s p → flag_count sh f s ≤ 1
-  single_count one = count_one sh f s p.last (single_others one)
+-- ## One flagged track
 
-  -- The one track.
-  pub one_track : Single sh s p → OneTrack sh f s p.last
-  one_track one = record { flagged = λ l. plan.flagged p.last l (is_last refl); one = λ _. single_count one; others = λ _. single_others one }
+-- Of the tracks below t this is the one that is flagged, or none is.
+pub record Only (g : ℕ → Bool) (t : ℕ) (track : Option ℕ) : Type 0 where
+  pub mark : (u : ℕ) → track ≡ Some u → (u < t) × (g u ≡ true)
+  pub rest : (u : ℕ) → u < t → (track ≡ Some u → ⊥) → g u ≡ false
 
-  -- There is no one track.
-  pub no_track : Fills sh f s p → (Single sh s p → ⊥) → (t : ℕ) → tracks sh s ≤ t → OneTrack sh f s t
-  no_track fills n t h = record {
-    flagged = λ l. absurd (omega arith);
-    one = λ l. absurd (omega arith);
-    others = λ c. absurd (n (record {
-      no_low = not_below _ _ (λ l. omega (arith, fills.two l));
-      no_high = not_below _ _ (λ l. omega (arith, fills.three l));
-    }));
+pub only_none : (g : ℕ → Bool) → Only g 0 None
+only_none g = record { mark = λ u e. absurd (no_track refl e); rest = λ u h. absurd (omega arith) }
+
+pub only_same : {g : ℕ → Bool} {t : ℕ} {track : Option ℕ} → Only g t track → g t ≡ false → Only g (t + 1) track
+only_same {g} {t} o e = record {
+  mark = λ u d. let m = o.mark u d in (omega arith, m.1);
+  rest = λ u h n. but_for (λ v. g v ≡ false) t e u (λ d. o.rest u (omega arith) n);
+}
+
+pub only_next : {g : ℕ → Bool} {t : ℕ} {track : Option ℕ} → Only g t track → is_some track ≡ false → g t ≡ true → Only g (t + 1) (Some t)
+only_next {g} {t} o n e = record {
+  mark = λ u d. let i = same_track refl d in (omega arith, rw (sym i) e);
+  rest = λ u h m. by_cases (dec_lt u t) (λ l. o.rest u l (λ d. true≢false (rw d at n))) (λ l. absurd (m (ap Some (omega arith))));
+}
+
+module _ (sh : Shape) (f : TrackFlags) (s : TrackSet) {track : Option ℕ} where
+  -- Of all tracks.
+  pub one_flagged : {n : ℕ} → n ≡ tracks sh s → Only (f s) n track → OneTrack sh f s track
+  one_flagged e o = record {
+    exists = λ t d. let m = o.mark t d in omega (arith, m.0);
+    flagged = λ t d. (o.mark t d).1;
+    one = λ t d. count_one sh f s track (λ u l m. o.rest u (omega arith) m);
+    others = λ _ u l m. o.rest u (omega arith) m;
   }
 
-  -- At a position with one flagged cell there is nothing to plan.
-  pub plan_none : Single sh s p → (g : TrackFlags) (t : ℕ) → tracks sh s ≤ t → PlanAt sh f g s (record { low = t; high = t; last = t })
-  plan_none one g t h = record {
-    fits = record { low_data = λ l. absurd (omega arith); below = λ l. absurd (omega arith); high_data = λ l. absurd (omega arith); above = λ l. absurd (omega arith) };
-    flagged = none;
-    rest = λ c. absurd (omega (arith, single_count one));
-    three = λ l. absurd (omega arith);
+  -- A second one.
+  pub two_flagged : {t : ℕ} → t < tracks sh s → Only (f s) t track → is_some track ≡ true → f s t ≡ true → OneTrack sh f s None
+  unfolding flag_count
+  two_flagged {t} l o n e = record {
+    exists = λ u d. absurd (no_track refl d);
+    flagged = λ u d. absurd (no_track refl d);
+    one = λ u d. absurd (no_track refl d);
+    others = λ c. absurd (true≢false (sym (rw (none_of track (λ u d. let m = o.mark u d in omega (arith, two_at_least (f s) u t (tracks sh s) m.0 l m.1 e))) at n)));
   }
-    where
-      none : (u : ℕ) → u < tracks sh s → Named (record { low = t; high = t; last = t }) u → f s u ≡ true
-      none u l (is_low e) = absurd (omega arith)
-      none u l (is_high e) = absurd (omega arith)
-      none u l (is_last e) = absurd (omega arith)
 
 -- ## The window's plan at a position
 
--- A number past the tracks, a track without a mark, and a marked track.
-pub if_past : {sh : Shape} {f : TrackFlags} {s : TrackSet} {t r : ℕ} → tracks sh s ≤ t → tracks sh s ≤ r → IfFlagged sh f s t r
-if_past h k = record { track = λ l. absurd (omega arith); flagged = λ l. absurd (omega arith); kept = λ l. absurd (omega arith) }
+-- With one flagged cell at the most there is nothing to plan.
+pub plan_none : (sh : Shape) (f g : TrackFlags) (s : TrackSet) → flag_count sh f s ≤ 1 → PlanAt sh f g s (record { low = None; high = None; last = None })
+plan_none sh f g s one = record {
+  exist = λ t h. absurd (none t h);
+  fits = record {
+    low_data = λ t e. absurd (no_track refl e);
+    below = λ t e. absurd (no_track refl e);
+    high_data = λ t e. absurd (no_track refl e);
+    above = λ t e. absurd (no_track refl e);
+  };
+  flagged = λ t h. absurd (none t h);
+  rest = λ c. absurd (omega arith);
+  three = λ t e. absurd (no_track refl e);
+}
+  where
+    none : (u : ℕ) → Named (record { low = None; high = None; last = None }) u → ⊥
+    none u = single_named (record { no_low = refl; no_high = refl }) (no_track refl)
 
-pub if_not : {sh : Shape} {s : TrackSet} {t r : ℕ} (marks : List ℕ) (g : ℕ) → g ≡ track_number sh s t → get_or marks g 0 ≢ 1 → tracks sh s ≤ r →
-    IfFlagged sh (marked sh marks) s t r
-if_not marks g e n k = record {
-  track = λ l. absurd (omega arith);
-  flagged = λ l. absurd (omega arith);
-  kept = λ l h. absurd (n (ap (λ (i : ℕ). get_or marks i 0) e ∙ eqb-true _ _ h));
+-- A track without a mark, and a marked track.
+pub if_none : {f : TrackFlags} {s : TrackSet} {track : Option ℕ} → ((t : ℕ) → track ≡ Some t → f s t ≡ false) → IfFlagged f s track None
+if_none h = record {
+  track_of = λ t e. absurd (no_track refl e);
+  flagged = λ t e. absurd (no_track refl e);
+  kept = λ t e k. absurd (true≢false (sym k ∙ h t e));
 }
 
-pub if_so : {sh : Shape} {s : TrackSet} {t : ℕ} (marks : List ℕ) (g : ℕ) → g ≡ track_number sh s t → get_or marks g 0 ≡ 1 → IfFlagged sh (marked sh marks) s t t
-if_so marks g e h = record { track = λ l. refl; flagged = λ l. eq-eqb _ _ (ap (λ (i : ℕ). get_or marks i 0) (sym e) ∙ h); kept = λ l d. refl }
+pub if_some : {f : TrackFlags} {s : TrackSet} {track : Option ℕ} {t : ℕ} → track ≡ Some t → f s t ≡ true → IfFlagged f s track (Some t)
+if_some e h = record { track_of = λ u d. rw e d; flagged = λ u d. rw (sym (same_track refl d)) h; kept = λ u d k. sym e ∙ d }
 
 -- What is kept of the window's plan.
-pub plan_kept : (sh : Shape) (f g : TrackFlags) (s : TrackSet) (wide : Plan) (low high last : ℕ) → Planned sh g s wide → Fills sh g s wide → Below sh f g s →
-    IfFlagged sh f s wide.low low → IfFlagged sh f s wide.high high → IfFlagged sh f s wide.last last →
+pub plan_kept : (sh : Shape) (f g : TrackFlags) (s : TrackSet) (wide : Plan) (low high last : Option ℕ) → Planned sh g s wide → Fills sh g s wide → Below sh f g s →
+    IfFlagged f s wide.low low → IfFlagged f s wide.high high → IfFlagged f s wide.last last →
     PlanAt sh f g s (record { low = low; high = high; last = last })
 plan_kept sh f g s wide low high last plan fills covered a b c = record {
+  exist = λ t h. plan.exist t (named t h);
   fits = record {
-    low_data = λ l. let e = a.track l in omega (arith, plan.low_data (omega arith));
-    below = λ l t h. let e = a.track l in plan.below (omega arith) t (omega arith);
-    high_data = λ l. let e = b.track l in let d = plan.high_data (omega arith) in (omega arith, omega arith);
-    above = λ l t h k. let e = b.track l in plan.above (omega arith) t (omega arith) k;
+    low_data = λ t e. plan.low_data t (a.track_of t e);
+    below = λ t e. plan.below t (a.track_of t e);
+    high_data = λ t e. let d = plan.high_data t (b.track_of t e) in (omega (arith, d.0.2), d.1);
+    above = λ t e. plan.above t (b.track_of t e);
   };
   flagged = on;
   rest = λ _. off;
-  three = λ l. let e = b.track l in fills.three (omega arith);
+  three = λ t e. fills.three t (b.track_of t e);
 }
   where
     p : Plan
     p = record { low = low; high = high; last = last }
 
-    on : (t : ℕ) → t < tracks sh s → Named p t → f s t ≡ true
-    on t l (is_low e) = rw e (a.flagged (omega arith))
-    on t l (is_high e) = rw e (b.flagged (omega arith))
-    on t l (is_last e) = rw e (c.flagged (omega arith))
+    named : (t : ℕ) → Named p t → Named wide t
+    named t (is_low e) = is_low (a.track_of t e)
+    named t (is_high e) = is_high (b.track_of t e)
+    named t (is_last e) = is_last (c.track_of t e)
+
+    on : (t : ℕ) → Named p t → f s t ≡ true
+    on t (is_low e) = a.flagged t e
+    on t (is_high e) = b.flagged t e
+    on t (is_last e) = c.flagged t e
 
     off : (t : ℕ) → t < tracks sh s → (Named p t → ⊥) → f s t ≡ false
-    off t l n = not_on (f s t) (λ h. by_cases (ℕ_discrete t wide.low)
-        (λ e. n (is_low (e ∙ sym (a.kept (omega arith) (rw (sym e) h)))))
-        (λ d. by_cases (ℕ_discrete t wide.high)
-        (λ e. n (is_high (e ∙ sym (b.kept (omega arith) (rw (sym e) h)))))
-        (λ d'. by_cases (ℕ_discrete t wide.last)
-        (λ e. n (is_last (e ∙ sym (c.kept (omega arith) (rw (sym e) h)))))
-        (λ d''. true≢false (sym h ∙ covered t l (plan.others t l (none d d' d'')))))))
+    off t l n = not_on (f s t) (λ h. true≢false (sym h ∙ covered t l (plan.others t l (none h))))
       where
-        none : t ≢ wide.low → t ≢ wide.high → t ≢ wide.last → Named wide t → ⊥
-        none d d' d'' (is_low e) = d e
-        none d d' d'' (is_high e) = d' e
-        none d d' d'' (is_last e) = d'' e
+        none : f s t ≡ true → Named wide t → ⊥
+        none h (is_low e) = n (is_low (a.kept t e h))
+        none h (is_high e) = n (is_high (b.kept t e h))
+        none h (is_last e) = n (is_last (c.kept t e h))
 
 -- Where the plan names one track at the most, one is flagged at the most.
-pub plan_single : {sh : Shape} {f g : TrackFlags} {s : TrackSet} {p : Plan} → PlanAt sh f g s p → Single sh s p → flag_count sh f s ≤ 1
+pub plan_single : {sh : Shape} {f g : TrackFlags} {s : TrackSet} {p : Plan} → PlanAt sh f g s p → Single p → flag_count sh f s ≤ 1
 plan_single {sh} {f} {g} {s} {p} plan one = by_cases (dec_lt 1 (flag_count sh f s))
-    (λ c. count_one sh f s p.last (λ t l d. plan.rest c t l (λ n. none t l d n)))
+    (λ c. count_one sh f s p.last (λ t l d. plan.rest c t l (single_named one d)))
     (λ c. omega arith)
-  where
-    none : (t : ℕ) → t < tracks sh s → t ≢ p.last → Named p t → ⊥
-    none t l d (is_low e) = omega (arith, one.no_low)
-    none t l d (is_high e) = omega (arith, one.no_high)
-    none t l d (is_last e) = d e
 
 -- ## Words
 
@@ -218,56 +232,42 @@ beside_three sh f w A h = omega (arith, w.in_all)
 beside_three sh f w B h = omega (arith, w.in_all)
 
 -- A plan made of the marks of two words suits every position that has them.
-pub suits_at : (z : Sizes) (words near : List ℕ) → Small z → z.closed ≡ true → Windows (shape z) words near → (m : ℕ) → m < track_length (shape z) →
+pub suits_at : (z : Sizes) (words near : List ℕ) → z.closed ≡ true → Windows (shape z) words near → (m : ℕ) → m < track_length (shape z) →
     (f g : TrackFlags) → SameFlags (shape z) f (word_flags (shape z) (get_or words m 0)) → SameFlags (shape z) g (word_flags (shape z) (get_or near m 0)) →
     (s : TrackSet) (p : Plan) → PlanAt (shape z) f g s p → Suits (shape z) (word_cells (shape z) words) s m p
-suits_at z words near small closed w m b f g here wide s p plan = record {
+suits_at z words near closed w m b f g here wide s p plan = record {
   window = g;
   clear = λ d c t q l e h k. clear_at z words near w m c t q l (sym (wide c t l) ∙ e) h (omega arith);
   fits = plan.fits;
-  flagged = λ t l n. sym (here s t l) ∙ plan.flagged t l n;
+  flagged = λ t l n. sym (here s t l) ∙ plan.flagged t n;
   rest = λ c t l n. sym (here s t l) ∙ plan.rest (omega (arith, count_same (shape z) f _ here s)) t l n;
-  across = λ d h q i k. omega (
+  across = λ d t h q i k. omega (
     arith,
     count_below (shape z) (flags_at (word_cells (shape z) words) q) (word_flags (shape z) (get_or near m 0)) (other s)
         (λ t l e. clear_at z words near w m (other s) t q l e i (omega arith)),
     beside_three (shape z) (word_flags (shape z) (get_or near m 0)) (code_within (shape z) _ (is_closed z closed) (w.coded m b)) s
-        (omega (arith, plan.three h, count_same (shape z) g _ wide s)),
+        (omega (arith, plan.three t h, count_same (shape z) g _ wide s)),
   );
 }
 
 -- ## Marks
 
-module _ (z : Sizes) (word : ℕ) (marks : List ℕ) (small : Small z) (m : Marks word marks) where
-  -- There is a mark for every track.
-  pub marks_room : all_tracks (shape z) ≤ length marks
-  marks_room = omega (arith, m.size)
-
-  pub marks_few : (s : TrackSet) → flag_count (shape z) (word_flags (shape z) word) s ≤ 3 → flag_count (shape z) (marked (shape z) marks) s ≤ 3
-  marks_few s h = omega (arith, count_same (shape z) _ _ (marks_same z word marks small m) s)
+module _ (z : Sizes) (word : ℕ) (marks : List Bool) (m : Marks word marks) where
+  marks_few : (s : TrackSet) → flag_count (shape z) (word_flags (shape z) word) s ≤ 3 → flag_count (shape z) (marked (shape z) marks) s ≤ 3
+  marks_few s h = omega (arith, count_same (shape z) _ _ (marks_same z word marks m) s)
 
   -- They say the same of every position with the word.
   pub marks_at : (words : List ℕ) (q : ℕ) → get_or words q 0 ≡ word → SameFlags (shape z) (marked (shape z) marks) (word_flags (shape z) (get_or words q 0))
-  marks_at words q e = rw e (marks_same z word marks small m)
+  marks_at words q e = rw e (marks_same z word marks m)
 
--- The one flagged track of flags that say the same.
-pub one_same : {sh : Shape} {f g : TrackFlags} {s : TrackSet} {t : ℕ} → SameFlags sh f g → OneTrack sh f s t → OneTrack sh g s t
-one_same {sh} {f} {g} {s} {t} same one = record {
-  flagged = λ l. sym (same s t l) ∙ one.flagged l;
-  one = λ l. omega (arith, one.one l, count_same sh f g same s);
-  others = λ c u l d. sym (same s u l) ∙ one.others (omega (arith, count_same sh f g same s)) u l d;
-}
+-- The marks of a window are fit for a plan at its position.
+module _ (z : Sizes) (closed : z.closed ≡ true) (word wide : ℕ) (in_window : InWindow (shape z) word wide) (s : TrackSet) where
+  pub three_near : (near : List Bool) → Marks wide near → flag_count (shape z) (marked (shape z) near) s ≤ 3
+  three_near near n = marks_few z wide near n s (window_few (shape z) word wide (is_closed z closed) in_window s).1
 
--- The marks of a position and of its window are fit for a plan.
-pub marks_window : (z : Sizes) (word wide : ℕ) (marks near : List ℕ) → Small z → z.closed ≡ true → Marks word marks → Marks wide near → InWindow (shape z) word wide → (s : TrackSet) →
-    (flag_count (shape z) (marked (shape z) marks) s ≤ 3) × (flag_count (shape z) (marked (shape z) near) s ≤ 3) × Below (shape z) (marked (shape z) marks) (marked (shape z) near) s
-marks_window z word wide marks near small closed m n i s =
-    let few = window_few (shape z) word wide (is_closed z closed) i s in (
-      marks_few z word marks small m s few.0,
-      marks_few z wide near small n s few.1,
-      λ t l e. marks_same z word marks small m s t l ∙ i.covered s t l (sym (marks_same z wide near small n s t l) ∙ e),
-    )
+  pub marks_below : (near : List Bool) → Marks wide near → Below (shape z) (word_flags (shape z) word) (marked (shape z) near) s
+  marks_below near n t l e = in_window.covered s t l (sym (marks_same z wide near n s t l) ∙ e)
 
--- A position's word flags three tracks of a set at the most.
-pub few_at : (z : Sizes) (words near : List ℕ) → z.closed ≡ true → Windows (shape z) words near → (m : ℕ) → m < track_length (shape z) → Few (shape z) (get_or words m 0)
-few_at z words near closed w m b = record { most = λ s. (window_few (shape z) (get_or words m 0) (get_or near m 0) (is_closed z closed) (in_window_at z words near w m b) s).0 }
+-- A word says the same of every position that has it.
+pub word_at : (sh : Shape) (word : ℕ) (words : List ℕ) (q : ℕ) → get_or words q 0 ≡ word → SameFlags sh (word_flags sh word) (word_flags sh (get_or words q 0))
+word_at sh word words q e = rw e (λ s t l. refl)

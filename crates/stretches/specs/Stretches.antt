@@ -4,7 +4,7 @@ use Rattle.code.specs.Record.{Cells, Good}
 use Rattle.code.specs.Image.{cells}
 use Rattle.code.specs.Flags.{CellFlags, AgreeOff}
 use Rattle.code.specs.Sizes.{shape}
-use Rattle.code.specs.declared.Sizes.{Sizes}
+use Rattle.code.specs.declared.sizes.Sizes.{Sizes}
 use Rattle.syndrome.specs.Syndrome.{Kept}
 
 -- What `solve` gives: true with a good record, or false and there is none. Only flagged cells are changed.

@@ -7,49 +7,35 @@ use native.Mathlib.Decide.{dec_lt}
 use native.Mathlib.Nat.{mul-le-mul, mul-le-mul_right}
 use native.Mathlib.Omega.{arith}
 use borrow.Rule.Slice.PartMut.{put_mid, mid_len, same_len_mid}
-use lib.ListN.{length, get_or, take, drop, replicate, get_or-replicate}
+use lib.ListN.{length, get_or, take, drop, replicate, get_or-replicate, get_or-eq_default}
 use lib.Seq.{get_or-take}
 use Rattle.code.specs.Record.{lag, track_length}
 use Rattle.code.specs.Image.{all_tracks}
-use Rattle.code.specs.Sizes.{shape, Small}
-use Rattle.code.specs.declared.Sizes.{Sizes}
-use Rattle.track.specs.Track.{row, Copied}
+use Rattle.code.specs.Sizes.{shape}
+use Rattle.code.specs.declared.sizes.Sizes.{Sizes}
+use Rattle.track.specs.Track.{row}
 use Rattle.track.proofs.Cells.{every}
 use Rattle.track.proofs.Parts.{part_at, put_before, put_in, put_after}
-use Rattle.track.proofs.Rows.{row_end, front}
+use Rattle.code.proofs.Places.{row_end}
+use Rattle.track.proofs.Rows.{front}
 use Rattle.syndrome.specs.Syndrome.{Image}
 use Rattle.sums.specs.Edge.{edge, FirstCopied, Padded}
 
 -- ## The first cells of a track
 
--- A source that is copied whole.
-pub first_whole : (source before after : List ℕ) → Copied source before after → FirstCopied source before after
-first_whole source before after c = record { size = c.size; copy = λ i _ h. c.copy i h; later = c.later }
-
 -- A source of which the first 80 cells are copied.
-pub first_part : (source before after : List ℕ) → 80 ≤ length source → Copied (take (80 - 0) (drop 0 source)) before after → FirstCopied source before after
-first_part source before after long c = record {
-  size = c.size;
-  copy = λ i h _. c.copy i (omega (arith, size)) ∙ get_or-take 80 source i 0 h;
-  later = λ i h. c.later i (omega (arith, size));
+pub first_part : (source before : List ℕ) → length before ≡ 80 → 80 ≤ length source → FirstCopied source before (take (80 - 0) source)
+first_part source before room long = record {
+  size = mid_len 0 80 source long ∙ sym room;
+  copy = λ i h _. get_or-take 80 source i 0 h;
+  later = λ i h. get_or-eq_default (take (80 - 0) source) 0 {n = i} (omega (arith, mid_len 0 80 source long)) ∙ sym (get_or-eq_default before 0 {n = i} (omega arith));
 }
-  where
-    size : length (take (80 - 0) (drop 0 source)) ≡ 80
-    size = mid_len 0 80 source long
 
 -- ## Before the first track, and an image
 
--- The sizes of the padded tracks are small.
-pub edge_small : (z : Sizes) → Small z → Small (edge z)
-edge_small z s = record { t1_small = s.t1_small; t2_small = s.t2_small; positions_small = omega arith }
-
--- The padded tracks are an image.
-pub padded_image : (z : Sizes) (n : ℕ) (image padded : List ℕ) → Padded z n image padded → Image (shape (edge z)) padded
-padded_image z n image padded p = record { size = p.size; bits = p.bits }
-
 -- An array of 1710 cells has room for the padded tracks.
-pub padded_room : (z : Sizes) → Small z → (lag (shape z) + 3) * (80 + lag (shape z)) ≤ 1710
-padded_room z s =
+pub padded_room : (z : Sizes) → (lag (shape z) + 3) * (80 + lag (shape z)) ≤ 1710
+padded_room z =
     let h : lag (shape z) + 3 ≤ 18 = omega arith in
     let k : 80 + lag (shape z) ≤ 95 = omega arith in
     mul-le-mul h k
@@ -58,34 +44,34 @@ padded_room z s =
 abbrev pub zeros : Sizes → List ℕ
 zeros z = take ((lag (shape z) + 3) * (80 + lag (shape z))) (replicate 1710 0)
 
-pub padded_none : (z : Sizes) (image : List ℕ) → Small z → Padded z 0 image (zeros z)
-padded_none z image s = record {
+pub padded_none : (z : Sizes) (image : List ℕ) → Padded z 0 image (zeros z)
+padded_none z image = record {
   size = size ∙ ap (λ n. n * (80 + lag (shape z))) (omega arith);
   bits = λ i. rw (zero_at i) (omega arith);
-  lead = λ g j _. zero_at (g * track_length (shape (edge z)) + j);
+  lead = λ g j _. zero_at (g * track_length (edge (shape z)) + j);
   cells_of = λ g i h. absurd (omega arith);
 }
   where
     size : length (zeros z) ≡ (lag (shape z) + 3) * (80 + lag (shape z))
-    size = front 1710 _ (padded_room z s)
+    size = front 1710 _ (padded_room z)
 
     zero_at : (i : ℕ) → get_or (zeros z) i 0 ≡ 0
     zero_at = every (λ (v : ℕ). v ≡ 0) (zeros z) refl (λ i h.
         get_or-take ((lag (shape z) + 3) * (80 + lag (shape z))) (replicate 1710 0) i 0 (omega (arith, size))
-        ∙ get_or-replicate 1710 i 0 0 (omega (arith, size, padded_room z s)))
+        ∙ get_or-replicate 1710 i 0 0 (omega (arith, size, padded_room z)))
 
 -- ## One more track
 
 -- Where the zeros of track g end and its cells begin.
 abbrev pub first_cell : Sizes → ℕ → ℕ
-first_cell z g = g * track_length (shape (edge z)) + lag (shape z)
+first_cell z g = g * track_length (edge (shape z)) + lag (shape z)
 
 module _ (z : Sizes) (image padded : List ℕ) (g : ℕ) (is_image : Image (shape z) image) (track : g < all_tracks (shape z)) (p : Padded z g image padded) where
   abbrev l : ℕ
   l = track_length (shape z)
 
   abbrev w : ℕ
-  w = track_length (shape (edge z))
+  w = track_length (edge (shape z))
 
   -- The image has track g.
   pub track_room : g * l + l ≤ length image

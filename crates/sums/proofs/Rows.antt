@@ -2,91 +2,127 @@
 use mathlib.Core.Path.{◌≡◌, refl, ap, ◌∙◌}
 use mathlib.Core.Logic.{by_cases}
 use mathlib.Core.List.{List}
-use Prim.Native.Nat.{ℕ, suc, ◌+◌, ◌*◌, ◌-◌, ◌<◌, ◌≤◌, ◌%◌}
+use Prim.Native.Nat.{ℕ, zero, suc, ◌+◌, ◌*◌, ◌-◌, ◌<◌, ◌≤◌, ◌%◌}
 use native.Mathlib.Nat.{mod-lt}
 use native.Mathlib.Decide.{dec_lt, ℕ_discrete}
 use native.Mathlib.Omega.{arith}
 use borrow.Rule.Slice.PartMut.{put_mid, mid_len, same_len_mid}
 use lib.Arith.{digits_lt}
-use lib.ListN.{length, get_or, take, drop, get_or-eq_default}
-use Rattle.code.specs.Record.{TrackSet, A, B, Shape, track_length, Cells, diagonal, vertical}
-use Rattle.track.specs.Track.{row, Copied}
+use lib.ListN.{length, get_or, get_or-eq_default}
+use Rattle.code.specs.Record.{row_of, Shape, track_length, Cells, diagonal, vertical}
+use Rattle.code.specs.declared.sizes.TrackSet.{TrackSet}
+use Rattle.code.specs.declared.sizes.TrackSet.TheVariants.{A, B}
+use Rattle.track.specs.Track.{row}
 use Rattle.track.proofs.Parts.{put_before, put_in, put_after}
-use Rattle.track.proofs.Rows.{row_end}
-use Rattle.syndrome.specs.Syndrome.{row_of, Holds}
+use Rattle.code.proofs.Places.{row_end}
+use Rattle.syndrome.specs.Syndrome.{Holds}
 use Rattle.syndrome.proofs.Table.{by_rows}
-use Rattle.sums.specs.Run.{SumsOf, rule, RunPut, RowsPut, Done}
-use Rattle.sums.specs.declared.Run.{Run}
+use Rattle.sums.specs.Run.{SumsOf, rule, RunPut, SetPut, RowsPut, SumsPut, RunStart, Done}
 
 -- The 64 cells of a row from p on are within four rows.
 pub run_room : (l r p : ℕ) (syn : List ℕ) → length syn ≡ 4 * l → r < 4 → p + 64 ≤ l → r * l + p + 64 ≤ length syn
 run_room l r p syn size h b = omega (arith, row_end l r 4 h)
 
 -- A run's sums that are copied to those cells are put into the row.
-module _ (l r p : ℕ) (run : Run) (syn last : List ℕ) (size : length syn ≡ 4 * l) (small : r < 4) (ends : p + 64 ≤ l)
-    (sums : length run.sums ≡ 64) where
+module _ (l r p : ℕ) (run syn : List ℕ) (size : length syn ≡ 4 * l) (small : r < 4) (ends : p + 64 ≤ l) (sums : length run ≡ 64) where
   abbrev a : ℕ
   a = r * l + p
 
   room : a + 64 ≤ length syn
   room = run_room l r p syn size small ends
 
-  pub run_put : Copied run.sums (take (a + 64 - a) (drop a syn)) last → RunPut l r p run syn (put_mid a (a + 64 - a) syn last)
-  run_put c =
-      let fits : length last ≡ a + 64 - a = c.size ∙ mid_len a (a + 64) syn room in
+  pub run_put : RunPut l r p run syn (put_mid a (a + 64 - a) syn run)
+  run_put =
+      let fits : length run ≡ a + 64 - a = omega (arith, sums) in
       record {
-        size = same_len_mid a (a + 64 - a) syn last c.size;
+        size = same_len_mid a (a + 64 - a) syn run (omega (arith, sums, mid_len a (a + 64) syn room));
         here = λ k h.
             let e : r * l + (p + k) ≡ a + k = omega arith in
-            rw e (put_in syn last a 64 room fits k h ∙ c.copy k (omega arith));
+            rw e (put_in syn run a 64 room fits k h);
         there = λ q m d h. by_cases (dec_lt q r)
-            (λ b. put_before syn last a 64 room fits (q * l + m) (omega (arith, digits_lt b h)))
-            (λ b. put_after syn last a 64 room fits (q * l + m) (omega (arith, row_end l r q (omega arith))));
-        early = λ m h. put_before syn last a 64 room fits (r * l + m) (omega arith);
-        late = λ m h b. put_after syn last a 64 room fits (r * l + m) (omega arith);
+            (λ b. put_before syn run a 64 room fits (q * l + m) (omega (arith, digits_lt b h)))
+            (λ b. put_after syn run a 64 room fits (q * l + m) (omega (arith, row_end l r q (omega arith))));
+        early = λ m h. put_before syn run a 64 room fits (r * l + m) (omega arith);
+        late = λ m h b. put_after syn run a 64 room fits (r * l + m) (omega arith);
       }
 
--- At first no row is put.
-pub put_none : (l p : ℕ) (f : ℕ → ℕ → ℕ) (m : ℕ) (syn : List ℕ) → RowsPut l p f m 0 syn syn
-put_none l p f m syn = record {
-  size = refl;
-  here = λ r k h b. absurd (omega arith);
-  early = λ r q h. refl;
-  late = λ r q h b. refl;
-  rest = λ r q h b. refl;
+-- The two rows of a set are put one after the other.
+set_put : (l p : ℕ) (f : ℕ → ℕ → ℕ) (m : ℕ) (s : TrackSet) (before mid after run next : List ℕ) → p + 64 ≤ l →
+    SumsOf (f (row_of s)) m run → RunPut l (row_of s) p run before mid → SumsOf (f (2 + row_of s)) m next → RunPut l (2 + row_of s) p next mid after →
+    SetPut l p f m s before after
+set_put l p f m s before mid after run next ends u a v b = record {
+  size = b.size ∙ a.size;
+  first = λ k h. b.there (row_of s) (p + k) (omega arith) (omega arith) ∙ a.here k h ∙ u.at k h;
+  second = λ k h. b.here k h ∙ v.at k h;
+  early = λ r i h. by_cases (ℕ_discrete r (row_of s))
+      (λ e. rw e (b.there (row_of s) i (omega arith) (omega arith) ∙ a.early i h))
+      (λ d. by_cases (ℕ_discrete r (2 + row_of s))
+      (λ e. rw e (b.early i h ∙ a.there (2 + row_of s) i (omega arith) (omega arith)))
+      (λ g. b.there r i g (omega arith) ∙ a.there r i d (omega arith)));
+  late = λ r i h k. by_cases (ℕ_discrete r (row_of s))
+      (λ e. rw e (b.there (row_of s) i (omega arith) k ∙ a.late i h k))
+      (λ d. by_cases (ℕ_discrete r (2 + row_of s))
+      (λ e. rw e (b.late i h k ∙ a.there (2 + row_of s) i (omega arith) k))
+      (λ g. b.there r i g k ∙ a.there r i d k));
+  rest = λ r i d g k. b.there r i g k ∙ a.there r i d k;
 }
 
--- One row more.
-pub put_more : (l p : ℕ) (f : ℕ → ℕ → ℕ) (m n : ℕ) (before mid after : List ℕ) (run : Run) → p + 64 ≤ l →
-    RowsPut l p f m n before mid → SumsOf (f n) m run → RunPut l n p run mid after → RowsPut l p f m (suc n) before after
-put_more l p f m n before mid after run ends rows sums put = record {
-  size = put.size ∙ rows.size;
-  here = λ r k h b. by_cases (ℕ_discrete r n)
-      (λ e. rw e (put.here k b ∙ sums.at k b))
-      (λ d. put.there r (p + k) d (omega arith) ∙ rows.here r k (omega arith) b);
-  early = λ r q h. by_cases (ℕ_discrete r n)
-      (λ e. rw e (put.early q h ∙ rows.early n q h))
-      (λ d. put.there r q d (omega arith) ∙ rows.early r q h);
-  late = λ r q h b. by_cases (ℕ_discrete r n)
-      (λ e. rw e (put.late q h b ∙ rows.late n q h b))
-      (λ d. put.there r q d b ∙ rows.late r q h b);
-  rest = λ r q h b. put.there r q (omega arith) b ∙ rows.rest r q (omega arith) b;
+-- The rules of a set's rows.
+diagonal_rule : (sh : Shape) (x : Cells) (s : TrackSet) → diagonal sh x s ≡ rule sh x (row_of s)
+diagonal_rule sh x A = refl
+diagonal_rule sh x B = refl
+
+vertical_rule : (sh : Shape) (x : Cells) (s : TrackSet) → vertical sh x s ≡ rule sh x (2 + row_of s)
+vertical_rule sh x A = refl
+vertical_rule sh x B = refl
+
+pub rules_put : (l p : ℕ) (sh : Shape) (x : Cells) (m : ℕ) (s : TrackSet) (before mid after run next : List ℕ) → p + 64 ≤ l →
+    SumsOf (diagonal sh x s) m run → RunPut l (row_of s) p run before mid → SumsOf (vertical sh x s) m next → RunPut l (2 + row_of s) p next mid after →
+    SetPut l p (rule sh x) m s before after
+rules_put l p sh x m s before mid after run next ends u a v b =
+    set_put l p (rule sh x) m s before mid after run next ends (rw (diagonal_rule sh x s) at u) a (rw (vertical_rule sh x s) at v) b
+
+-- And both sets.
+pub rows_put : (l p : ℕ) (f : ℕ → ℕ → ℕ) (m : ℕ) (before mid after : List ℕ) → p + 64 ≤ l → SetPut l p f m A before mid → SetPut l p f m B mid after →
+    RowsPut l p f m before after
+rows_put l p f m before mid after ends a b = record {
+  size = b.size ∙ a.size;
+  here = here;
+  early = λ r i h. b.early r i h ∙ a.early r i h;
+  late = λ r i h k. b.late r i h k ∙ a.late r i h k;
+}
+  where
+    here : (r k : ℕ) → r < 4 → k < 64 → row l after r (p + k) ≡ f r (m + k) % 2
+    here zero k h c = b.rest 0 (p + k) (omega arith) (omega arith) (omega arith) ∙ a.first k c
+    here (suc zero) k h c = b.first k c
+    here (suc (suc zero)) k h c = b.rest 2 (p + k) (omega arith) (omega arith) (omega arith) ∙ a.second k c
+    here (suc (suc (suc zero))) k h c = b.second k c
+    here (suc (suc (suc (suc r)))) k h c = absurd (omega arith)
+
+-- What `put_sums` gives: where f, from some position on, is the record's rule, as far as a track goes.
+pub sums_put : (w q : ℕ) (sh : Shape) (x : Cells) (p : ℕ) (f : ℕ → ℕ → ℕ) (from : ℕ) (before after : List ℕ) →
+    ((r k : ℕ) → r < 4 → k < 64 → p + k < track_length sh → f r (from + k) ≡ rule sh x r (p + k)) → RowsPut w q f from before after →
+    SumsPut w q sh x p before after
+sums_put w q sh x p f from before after same put = record {
+  size = put.size;
+  bits = λ r k h c. rw (put.here r k h c) (mod-lt _ (omega arith));
+  sums = λ r k h c b. put.here r k h c ∙ ap (λ v. v % 2) (same r k h c b);
+  early = put.early;
+  late = put.late;
 }
 
 -- Rows done before m, and sums put at the 64 positions from p on, which begin no later than m and go on as far as a track has positions
--- before m + 64: the rows are done before m + 64.
-pub done_more : (sh : Shape) (x : Cells) (m p : ℕ) (f : ℕ → ℕ → ℕ) (from : ℕ) (before after : List ℕ) → Done sh x m before → p ≤ m →
-    ((q : ℕ) → q < m + 64 → q < track_length sh → q < p + 64) → p + 64 ≤ track_length sh →
-    ((r k : ℕ) → r < 4 → k < 64 → f r (from + k) ≡ rule sh x r (p + k)) → RowsPut (track_length sh) p f from 4 before after →
-    Done sh x (m + 64) after
-done_more sh x m p f from before after done starts ends room same put = record {
+-- before m + 64: the rows are done before n, which is m + 64.
+pub done_more : (sh : Shape) (x : Cells) (m n p : ℕ) (before after : List ℕ) → n ≡ m + 64 → 64 ≤ track_length sh → Done sh x m before → RunStart (track_length sh) m p →
+    SumsPut (track_length sh) p sh x p before after → Done sh x n after
+done_more sh x m n p before after next long done at put = record {
   size = put.size ∙ done.size;
   sums = λ r q h b t. by_cases (dec_lt q p)
-      (λ w. put.early r q w ∙ done.sums r q h (omega arith) t)
+      (λ w. put.early r q w ∙ done.sums r q h (omega (arith, at.starts)) t)
       (λ w.
-      let k : q - p < 64 = omega (arith, ends q b t) in
+      let k : q - p < 64 = omega (arith, at.reaches q (omega arith) t) in
       let e : p + (q - p) ≡ q = omega arith in
-      rw e at (put.here r (q - p) h k ∙ ap (λ v. v % 2) (same r (q - p) h k)));
+      rw e at (put.sums r (q - p) h k (omega arith)));
 }
 
 -- When all positions are done, the rows hold the syndromes.

@@ -1,5 +1,5 @@
 -- A record shorter than a run: the first cells of each row of 64 sums are copied to its rows.
-use mathlib.Core.Path.{◌≡◌, ◌∙◌}
+use mathlib.Core.Path.{◌≡◌, sym, ◌∙◌}
 use mathlib.Core.Logic.{by_cases}
 use mathlib.Core.List.{List}
 use Prim.Native.Nat.{ℕ, ◌+◌, ◌*◌, ◌-◌, ◌<◌, ◌≤◌}
@@ -10,10 +10,11 @@ use lib.ListN.{length, take, drop}
 use Rattle.code.specs.Record.{track_length}
 use Rattle.code.specs.Image.{cells}
 use Rattle.code.specs.Sizes.{shape}
-use Rattle.code.specs.declared.Sizes.{Sizes}
-use Rattle.track.specs.Track.{row, Copied}
+use Rattle.code.specs.declared.sizes.Sizes.{Sizes}
+use Rattle.track.specs.Track.{row}
 use Rattle.track.proofs.Parts.{part_at}
-use Rattle.track.proofs.Rows.{row_end, new_length, new_here, new_there}
+use Rattle.code.proofs.Places.{row_end}
+use Rattle.track.proofs.Rows.{new_length, new_here, new_there}
 use Rattle.syndrome.specs.Syndrome.{Holds}
 use Rattle.sums.specs.Edge.{RunSums}
 use Rattle.sums.proofs.Rows.{done_holds}
@@ -23,12 +24,8 @@ pub record RowsCopied (l n : ℕ) (rows syn : List ℕ) : Type 0 where
   pub size : length syn ≡ 4 * l
   pub copied : (r q : ℕ) → r < n → q < l → row l syn r q ≡ row 64 rows r q
 
--- At first no row is copied.
-pub copied_none : (l : ℕ) (rows syn : List ℕ) → length syn ≡ 4 * l → RowsCopied l 0 rows syn
-copied_none l rows syn size = record { size = size; copied = λ r q h b. absurd (omega arith) }
-
 -- One row more, which is lent and comes back.
-module _ (l n : ℕ) (rows syn last : List ℕ) (before : RowsCopied l n rows syn) (small : n < 4) (short : l < 64) (size : length rows ≡ 256) where
+module _ (l n : ℕ) (rows syn : List ℕ) (before : RowsCopied l n rows syn) (small : n < 4) (short : l < 64) (size : length rows ≡ 256) where
   abbrev a : ℕ
   a = n * 64
 
@@ -38,13 +35,18 @@ module _ (l n : ℕ) (rows syn last : List ℕ) (before : RowsCopied l n rows sy
   source : length (take (a + l - a) (drop a rows)) ≡ a + l - a
   source = mid_len a (a + l) rows (omega arith)
 
-  pub copied_more : Copied (take (a + l - a) (drop a rows)) (take (n * l + l - n * l) (drop (n * l) syn)) last →
-      RowsCopied l (n + 1) rows (put_mid (n * l) (n * l + l - n * l) syn last)
-  copied_more c = record {
-    size = new_length l syn n room last c.size ∙ before.size;
+  abbrev last : List ℕ
+  last = take (a + l - a) (drop a rows)
+
+  fits : length last ≡ length (take (n * l + l - n * l) (drop (n * l) syn))
+  fits = source ∙ sym (mid_len (n * l) (n * l + l) syn room ∙ omega arith)
+
+  pub copied_more : RowsCopied l (n + 1) rows (put_mid (n * l) (n * l + l - n * l) syn (take (a + l - a) (drop a rows)))
+  copied_more = record {
+    size = new_length l syn n room last fits ∙ before.size;
     copied = λ r q h b. by_cases (ℕ_discrete r n)
-        (λ e. rw e (new_here l syn n room last c.size q b ∙ c.copy q (omega (arith, source)) ∙ part_at rows a (a + l - a) q (omega arith)))
-        (λ d. new_there l syn n room last c.size r q d b ∙ before.copied r q (omega arith) b);
+        (λ e. rw e (new_here l syn n room last fits q b ∙ part_at rows a (a + l - a) q (omega arith)))
+        (λ d. new_there l syn n room last fits r q d b ∙ before.copied r q (omega arith) b);
   }
 
 -- When all four rows are copied, they hold the syndromes.

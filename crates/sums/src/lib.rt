@@ -3,15 +3,18 @@
 #![tactic(auto)]
 
 ghost use Rattle.std.specs.Prelude.{◌≡◌, ◌+◌, ◌*◌, ◌<◌, ◌≤◌, suc, length};
-ghost use Rattle.code.specs.Record.{data_tracks, lag, track_length, diagonal, vertical};
-ghost use Rattle.code.specs.Heads.{slope, before, after, running};
+ghost use Rattle.code.specs.Record.{tracks, lag, track_length, diagonal, vertical};
+ghost use Rattle.code.specs.Heads.{before, after, running};
 ghost use Rattle.code.specs.Image.{all_tracks, cells};
-ghost use Rattle.code.specs.Sizes.{shape, Small};
-ghost use Rattle.syndrome.specs.Syndrome.{set_of, Holds, Image};
-ghost use Rattle.sums.specs.Run.{SumsOf, RunAdded, Within, Most, rule, RunPut, RowsPut, RunStart, Done};
-ghost use Rattle.sums.specs.Edge.{edge, FirstCopied, Padded, Padding, RunSums, Summing};
+ghost use Rattle.code.specs.Sizes.{shape};
+ghost use Rattle.syndrome.specs.Syndrome.{Holds, Image};
+ghost use Rattle.sums.specs.Run.{SumsOf, TrackRun, Within, rule, RunPut, SetPut, RowsPut, SumsPut, RunStart, Done};
+ghost use Rattle.sums.specs.Edge.{FirstCopied, Padded, RunSums};
 
-use code::Sizes;
+mod source;
+
+use code::{Sizes, TrackSet};
+pub use source::Source;
 
 // ---- A run of 64 positions
 
@@ -21,130 +24,117 @@ struct Run {
     sums: [u8; 64],
 }
 
-// Adds to 64 sums the 64 cells of a track's stretch from `from` on. Compiled, the sums stay in four vector registers.
-fn add_run(run: Run, stretch: &[u8], from: usize) -> Run
-    requires sums_len { length run.sums ≡ 64 }
-    requires from_in_bounds { from + 64 ≤ length stretch.now }
-    ensures { RunAdded run stretch.now from result }
-{
-    let mut sums = run.sums;
-    let mut k = 0;
-    while k < 64 {
-        sums[k] = sums[k] ^ stretch[from + k];
-        k += 1;
-    }
-    Run { sums: sums }
-}
+// An image of bits and the place of a run in it (`Within`) are facts of the six functions that read it: a struct that holds them would be
+// made anew for the padded tracks and for each place.
 
-// How many positions back the diagonal of set d has track t of set s.
-fn find_slope(z: Sizes, d: usize, s: usize, t: usize) -> usize
-    requires small { Small z }
-    requires d_bound { d < 2 }
-    requires s_bound { s < 2 }
-    requires t_bound { t ≤ data_tracks (shape z) (set_of s) }
-    ensures { result ≡ slope (shape z) (set_of d) (set_of s) t }
+// Adds the 64 cells of a track from `from` on. Compiled, the sums stay in four vector registers.
+fn add_run(run: Run, image: &[u8], z: Sizes, s: TrackSet, t: usize, from: usize) -> Run
+    requires sums_len { length run.sums ≡ 64 }
+    requires image { Image (shape z) image.now }
+    requires track { t < tracks (shape z) s }
+    requires from_in_bounds { from + 64 ≤ track_length (shape z) }
+    ensures { TrackRun (cells (shape z) image.now s t) from run.sums result.sums }
 {
-    if s == d { t } else { z.t1 + z.t2 + 1 - t }
+    let start = z.track_number(s, t) * z.track_length() + from;
+    let end = start + 64;
+    let stretch = &image[start..end];
+    let mut sums = run.sums;
+    for (k, sum) in sums.iter_mut().enumerate() {
+        *sum ^= stretch[k];
+    }
+    Run { sums }
 }
 
 // Adds the track that arrives next, track t of set s, to the running sums of the diagonal of set d. A track past the last data track
 // lies on no diagonal.
-fn add_head(run: Run, image: &[u8], z: Sizes, d: usize, s: usize, t: usize, m: usize) -> Run
+fn add_head(run: Run, image: &[u8], z: Sizes, d: TrackSet, s: TrackSet, t: usize, m: usize) -> Run
     requires within { Within z m image.now }
-    requires d_bound { d < 2 }
-    requires s_bound { s < 2 }
-    requires sums_of { SumsOf (before (shape z) (cells (shape z) image.now) (set_of d) (set_of s) t) m run }
-    ensures { SumsOf (after (shape z) (cells (shape z) image.now) (set_of d) (set_of s) t) m result }
+    requires sums_of { SumsOf (before (shape z) (cells (shape z) image.now) d s t) m run.sums }
+    ensures { SumsOf (after (shape z) (cells (shape z) image.now) d s t) m result.sums }
 {
-    if syndrome::data_tracks(z, s) < t {
+    if z.data_tracks(s) < t {
         return run;
     }
-    let l = z.positions + (z.t1 + z.t2 + 1);
-    let first = syndrome::track_number(z, s, t) * l;
-    let end = first + l;
-    add_run(run, &image[first..end], m - find_slope(z, d, s, t))
+    add_run(run, image, z, s, t, m - z.slope(d, s, t))
 }
 
 // Adds track t of A and then track t of B: the running sums become those of tracks 0 to t of both sets.
-fn add_heads(run: Run, image: &[u8], z: Sizes, d: usize, t: usize, m: usize) -> Run
+fn add_heads(run: Run, image: &[u8], z: Sizes, d: TrackSet, t: usize, m: usize) -> Run
     requires within { Within z m image.now }
-    requires d_bound { d < 2 }
-    requires sums_of { SumsOf (running (shape z) (cells (shape z) image.now) (set_of d) t) m run }
-    ensures { SumsOf (running (shape z) (cells (shape z) image.now) (set_of d) (suc t)) m result }
+    requires sums_of { SumsOf (running (shape z) (cells (shape z) image.now) d t) m run.sums }
+    ensures { SumsOf (running (shape z) (cells (shape z) image.now) d (suc t)) m result.sums }
 {
-    let after_a = add_head(run, image, z, d, 0, t, m);
-    let after_b = add_head(after_a, image, z, d, 1, t, m);
-    after_b
+    let after_a = add_head(run, image, z, d, TrackSet::A, t, m);
+    add_head(after_a, image, z, d, TrackSet::B, t, m)
 }
 
-// The number of data tracks of the larger set.
-fn most_tracks(z: Sizes) -> usize
-    ensures { Most z result }
-{
-    if z.t1 < z.t2 { z.t2 } else { z.t1 }
-}
-
-// The diagonals of set d at the 64 positions from m on, in head order.
-fn diagonal_run(image: &[u8], z: Sizes, d: usize, m: usize) -> Run
+// The diagonals of set d at the 64 positions from m on, in head order. (No common loop with `vertical_run`: it would take the step as a
+// closure, with what each step adds as a law beside it, and is longer than the two loops.)
+fn diagonal_run(image: &[u8], z: Sizes, d: TrackSet, m: usize) -> Run
     requires within { Within z m image.now }
-    requires d_bound { d < 2 }
-    ensures { SumsOf (diagonal (shape z) (cells (shape z) image.now) (set_of d)) m result }
+    ensures { SumsOf (diagonal (shape z) (cells (shape z) image.now) d) m result.sums }
 {
-    let count = most_tracks(z) + 1;
+    let count = z.t1.max(z.t2) + 1;
     let mut run = Run { sums: [0; 64] };
-    let mut t = 0;
-    while t < count {
+    for t in 0..count {
         run = add_heads(run, image, z, d, t, m);
-        t += 1;
     }
     run
 }
 
 // The verticals of set s there.
-fn vertical_run(image: &[u8], z: Sizes, s: usize, m: usize) -> Run
+fn vertical_run(image: &[u8], z: Sizes, s: TrackSet, m: usize) -> Run
     requires within { Within z m image.now }
-    requires s_bound { s < 2 }
-    ensures { SumsOf (vertical (shape z) (cells (shape z) image.now) (set_of s)) m result }
+    ensures { SumsOf (vertical (shape z) (cells (shape z) image.now) s) m result.sums }
 {
-    let l = z.positions + (z.t1 + z.t2 + 1);
-    let count = syndrome::data_tracks(z, s) + 2;
+    let count = z.tracks(s);
     let mut run = Run { sums: [0; 64] };
-    let mut t = 0;
-    while t < count {
-        let start = syndrome::track_number(z, s, t) * l;
-        let end = start + l;
-        run = add_run(run, &image[start..end], m);
-        t += 1;
+    for t in 0..count {
+        run = add_run(run, image, z, s, t, m);
     }
     run
 }
 
 // ---- Rows of sums
 
-// Puts 64 sums into a row of rows of l cells, from p on.
-fn put_run(syn: &mut [u8], l: usize, row: usize, p: usize, run: Run)
-    requires syn_len { length syn.old ≡ 4 * l }
+// The four rows of w cells and a place q in them go from function to function down to `put_run`, which alone writes: they are lent
+// for writing, and a struct that holds them with a fact is covered by the checker behind a `&mut` alone, for which it would be made anew.
+
+// Puts 64 sums into a row of rows of w cells, from q on.
+fn put_run(rows: &mut [u8], w: usize, row: usize, q: usize, run: Run)
+    requires rows_len { length rows.old ≡ 4 * w }
     requires row_bound { row < 4 }
-    requires p_bound { p + 64 ≤ l }
+    requires q_bound { q + 64 ≤ w }
     requires sums_len { length run.sums ≡ 64 }
-    ensures { RunPut l row p run syn.old syn.new }
+    ensures { RunPut w row q run.sums rows.old rows.new }
 {
-    let start = row * l + p;
+    let start = row * w + q;
     let end = start + 64;
-    track::copy_into(&mut syn[start..end], &run.sums);
+    rows[start..end].copy_from_slice(&run.sums);
 }
 
-// Puts the sums of an image at the 64 positions from m on into all four rows, from p on.
-fn put_rows(syn: &mut [u8], l: usize, p: usize, image: &[u8], z: Sizes, m: usize)
-    requires syn_len { length syn.old ≡ 4 * l }
-    requires p_bound { p + 64 ≤ l }
+// Puts the sums of a set at the 64 positions from m on into its two rows, from q on. Part of its caller, it knows the set as it is
+// compiled, and the tracks of a diagonal are found by addition; else the sums of 256 blocks take 3.2 µs in place of 2.3.
+#[inline(always)]
+fn put_set(rows: &mut [u8], w: usize, q: usize, image: &[u8], z: Sizes, s: TrackSet, m: usize)
+    requires rows_len { length rows.old ≡ 4 * w }
+    requires q_bound { q + 64 ≤ w }
     requires within { Within z m image.now }
-    ensures { RowsPut l p (rule (shape z) (cells (shape z) image.now)) m 4 syn.old syn.new }
+    ensures { SetPut w q (rule (shape z) (cells (shape z) image.now)) m s rows.old rows.new }
 {
-    put_run(syn, l, 0, p, diagonal_run(image, z, 0, m));
-    put_run(syn, l, 1, p, diagonal_run(image, z, 1, m));
-    put_run(syn, l, 2, p, vertical_run(image, z, 0, m));
-    put_run(syn, l, 3, p, vertical_run(image, z, 1, m));
+    put_run(rows, w, s.row(), q, diagonal_run(image, z, s, m));
+    put_run(rows, w, 2 + s.row(), q, vertical_run(image, z, s, m));
+}
+
+// Puts those of both sets into all four rows.
+fn put_rows(rows: &mut [u8], w: usize, q: usize, image: &[u8], z: Sizes, m: usize)
+    requires rows_len { length rows.old ≡ 4 * w }
+    requires q_bound { q + 64 ≤ w }
+    requires within { Within z m image.now }
+    ensures { RowsPut w q (rule (shape z) (cells (shape z) image.now)) m rows.old rows.new }
+{
+    put_set(rows, w, q, image, z, TrackSet::A, m);
+    put_set(rows, w, q, image, z, TrackSet::B, m);
 }
 
 // ---- The first positions
@@ -154,80 +144,80 @@ fn copy_first(out: &mut [u8], source: &[u8])
     requires { length out.old ≡ 80 }
     ensures { FirstCopied source.now out.old out.new }
 {
-    if source.len() < 80 {
-        track::copy_into(out, source);
+    let n = source.len();
+    if n < 80 {
+        out[..n].copy_from_slice(source);
     } else {
-        track::copy_into(out, &source[0..80]);
+        out.copy_from_slice(&source[..80]);
     }
 }
 
 // Copies 80 cells behind the zeros of track number g: its first ones and, where it is shorter, those of the tracks behind it.
 fn pad_track(padded: &mut [u8], image: &[u8], z: Sizes, g: usize)
-    requires small { Small z }
     requires image { Image (shape z) image.now }
     requires g_bound { g < all_tracks (shape z) }
     requires padded { Padded z g image.now padded.old }
     ensures { Padded z (suc g) image.now padded.new }
 {
-    let lag = z.t1 + z.t2 + 1;
-    let l = z.positions + lag;
-    let from = g * l;
+    let lag = z.lag();
+    let from = g * z.track_length();
     let start = g * (80 + lag) + lag;
     let end = start + 80;
     copy_first(&mut padded[start..end], &image[from..]);
 }
 
-// Copies the first cells of all tracks.
-pub fn pad(padded: &mut [u8], image: &[u8], z: Sizes)
-    requires small { Small z }
+// Copies the first cells of all tracks behind the zeros of a room.
+pub fn pad<'a>(room: &'a mut [u8], image: &'a [u8], z: Sizes) -> Source<'a>
     requires image { Image (shape z) image.now }
-    requires padded { Padded z 0 image.now padded.old }
-    ensures { Padded z (all_tracks (shape z)) image.now padded.new }
+    requires room { Padded z 0 image.now room.old }
+    ensures of_image { result.image.now ≡ image.now }
+    ensures of_sizes { result.z ≡ z }
 {
-    let count = z.t1 + z.t2 + 4;
-    let mut g = 0;
-    while g < count {
-        pad_track(padded, image, z, g);
-        g += 1;
+    for g in 0..z.all_tracks() {
+        pad_track(room, image, z, g);
+    }
+    Source {
+        z,
+        image,
+        padded: room,
     }
 }
 
 // ---- The sums of 64 positions
 
-// Puts the sums of the 64 positions from m on, as the padded tracks have them, into four rows of w cells, from p on.
-fn edge_rows(rows: &mut [u8], w: usize, p: usize, padded: &[u8], z: Sizes, m: usize)
+// Puts the sums of the 64 positions from p on into four rows of w cells, from q on, as far as a record has these positions. Where the
+// diagonals leave the tracks at their start, they are those of the padded tracks, which have p a lag later.
+fn put_sums(rows: &mut [u8], w: usize, q: usize, source: Source, p: usize)
     requires rows_len { length rows.old ≡ 4 * w }
-    requires p_bound { p + 64 ≤ w }
-    requires small { Small z }
-    requires image { Image (shape (edge z)) padded.now }
-    requires m_bound { m < lag (shape z) }
-    ensures { RowsPut w p (rule (shape (edge z)) (cells (shape (edge z)) padded.now)) (lag (shape z) + m) 4 rows.old rows.new }
+    requires q_bound { q + 64 ≤ w }
+    requires p_bound { 64 ≤ track_length (shape source.z) → p + 64 ≤ track_length (shape source.z) }
+    requires p_value { track_length (shape source.z) < 64 → p ≡ 0 }
+    ensures { SumsPut w q (shape source.entry.z) (cells (shape source.entry.z) source.entry.image.now) p rows.old rows.new }
 {
-    let lag = z.t1 + z.t2 + 1;
-    let sizes = Sizes {
-        t1: z.t1,
-        t2: z.t2,
-        positions: 80,
-        closed: z.closed,
-    };
-    put_rows(rows, w, p, padded, sizes, lag + m);
+    let z = source.z;
+    let lag = z.lag();
+    if p < lag {
+        // `..z` is for structs with no ghost field.
+        let padded = Sizes {
+            t1: z.t1,
+            t2: z.t2,
+            positions: 80,
+            closed: z.closed,
+        };
+        put_rows(rows, w, q, source.padded, padded, lag + p);
+    } else {
+        put_rows(rows, w, q, source.image, z, p);
+    }
 }
 
-// Puts the sums of the 64 positions from p on into four rows of 64, as far as a record has these positions. Where the diagonals leave
-// the tracks at their start, they are those of the padded tracks.
-pub fn sum_rows(rows: &mut [u8], image: &[u8], padded: &[u8], z: Sizes, p: usize)
+// The same into four rows of 64.
+pub fn sum_rows(rows: &mut [u8], source: Source, p: usize)
     requires rows_len { length rows.old ≡ 256 }
-    requires padding { Padding z image.now padded.now }
-    requires p_bound { 64 ≤ track_length (shape z) → p + 64 ≤ track_length (shape z) }
-    requires p_value { track_length (shape z) < 64 → p ≡ 0 }
-    ensures { RunSums z image.now p rows.new }
+    requires p_bound { 64 ≤ track_length (shape source.z) → p + 64 ≤ track_length (shape source.z) }
+    requires p_value { track_length (shape source.z) < 64 → p ≡ 0 }
+    ensures { RunSums source.entry.z source.entry.image.now p rows.new }
 {
-    let lag = z.t1 + z.t2 + 1;
-    if p < lag {
-        edge_rows(rows, 64, 0, padded, z, p);
-    } else {
-        put_rows(rows, 64, 0, image, z, p);
-    }
+    put_sums(rows, 64, 0, source, p);
 }
 
 // Where the run of position m begins: there or, where fewer than 64 positions are left, so far before that it ends with the track. A
@@ -235,70 +225,47 @@ pub fn sum_rows(rows: &mut [u8], image: &[u8], padded: &[u8], z: Sizes, p: usize
 pub fn run_start(l: usize, m: usize) -> usize
     ensures { RunStart l m result }
 {
-    if l < 64 {
-        return 0;
-    }
-    let last = l - 64;
-    if last < m { last } else { m }
+    m.min(l.saturating_sub(64))
 }
 
 // ---- The syndromes
 
 // The rows of a record shorter than a run.
-fn sum_short(syn: &mut [u8], image: &[u8], padded: &[u8], z: Sizes)
-    requires z_bound { track_length (shape z) < 64 }
-    requires syn_len { length syn.old ≡ 4 * track_length (shape z) }
-    requires padding { Padding z image.now padded.now }
-    ensures { Holds (shape z) (cells (shape z) image.now) syn.new }
+fn sum_short(syn: &mut [u8], source: Source)
+    requires short { track_length (shape source.z) < 64 }
+    requires syn_len { length syn.old ≡ 4 * track_length (shape source.z) }
+    ensures { Holds (shape source.entry.z) (cells (shape source.entry.z) source.entry.image.now) syn.new }
 {
-    let l = z.positions + (z.t1 + z.t2 + 1);
-    let mut rows = [0u8; 256];
-    sum_rows(&mut rows, image, padded, z, 0);
-    let mut r = 0;
-    while r < 4 {
+    let l = source.z.track_length();
+    // Fixed memory, as in all rooms here.
+    let mut rows = [0; 256];
+    sum_rows(&mut rows, source, 0);
+    for r in 0..4 {
         let from = r * 64;
         let to = from + l;
         let start = r * l;
         let end = start + l;
-        track::copy_into(&mut syn[start..end], &rows[from..to]);
-        r += 1;
-    }
-}
-
-// The sums of the 64 positions from m on, of a longer one.
-fn sum_run(syn: &mut [u8], padded: &[u8], image: &[u8], z: Sizes, m: usize)
-    requires { Summing z m image.now padded.now syn.old }
-    ensures { Done (shape z) (cells (shape z) image.now) (m + 64) syn.new }
-{
-    let lag = z.t1 + z.t2 + 1;
-    let l = z.positions + lag;
-    let p = run_start(l, m);
-    if p < lag {
-        edge_rows(syn, l, p, padded, z, p);
-    } else {
-        put_rows(syn, l, p, image, z, p);
+        syn[start..end].copy_from_slice(&rows[from..to]);
     }
 }
 
 // The syndromes of an image.
 pub fn syndromes(image: &[u8], z: Sizes, syn: &mut [u8])
-    requires small { Small z }
     requires image { Image (shape z) image.now }
     requires syn_len { length syn.old ≡ 4 * track_length (shape z) }
     ensures { Holds (shape z) (cells (shape z) image.now) syn.new }
 {
-    let lag = z.t1 + z.t2 + 1;
-    let l = z.positions + lag;
-    let mut room = [0u8; 1710];
-    let padded = &mut room[..(lag + 3) * (80 + lag)];
-    pad(padded, image, z);
+    let lag = z.lag();
+    let l = z.track_length();
+    // Fixed memory: the largest sizes have 18 tracks of 95 cells here.
+    let mut room = [0; 1710];
+    let source = pad(&mut room[..(lag + 3) * (80 + lag)], image, z);
     if l < 64 {
-        sum_short(syn, image, padded, z);
+        sum_short(syn, source);
         return;
     }
-    let mut m = 0;
-    while m < l {
-        sum_run(syn, padded, image, z, m);
-        m += 64;
+    for i in 0..l.div_ceil(64) {
+        let p = run_start(l, 64 * i);
+        put_sums(syn, l, p, source, p);
     }
 }

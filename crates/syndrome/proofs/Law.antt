@@ -1,16 +1,17 @@
 -- The law of all sums: a track that is added to the rows it stands in is added to the record.
 use mathlib.Core.Path.{◌≡◌, refl, sym, ap, ◌∙◌}
 use mathlib.Core.List.{List}
-use Prim.Native.Nat.{ℕ, zero, suc, ◌+◌, ◌*◌, ◌-◌, ◌%◌, ◌<◌, ◌≤◌}
+use Prim.Native.Nat.{ℕ, ◌+◌, ◌*◌, ◌-◌, ◌%◌, ◌<◌, ◌≤◌}
 use native.Mathlib.Omega.{arith}
 use lib.ListN.{get_or}
-use Rattle.code.specs.Record.{TrackSet, A, B, other, Shape, data_tracks, tracks, lag, track_length, Cells, back, vertical, Same}
+use Rattle.code.specs.Record.{other, row_of, Shape, data_tracks, tracks, lag, track_length, Cells, back, vertical, Same}
+use Rattle.code.specs.declared.sizes.TrackSet.{TrackSet}
 use Rattle.code.proofs.Sums.{back_early}
 use Rattle.code.proofs.Linear.{◌⊞◌, bits_of, diagonal_add, vertical_add, diagonal_mod, vertical_mod, diagonal_same, vertical_same}
 use Rattle.code.proofs.OneTrack.{put, offset, offset_vertical, offset_both, diagonal_put, vertical_on, vertical_off}
-use Rattle.syndrome.specs.Syndrome.{set_of, row_of, Holds}
+use Rattle.syndrome.specs.Syndrome.{Holds}
 use Rattle.syndrome.specs.Steps.{Rows, RowAdded, TrackAdded}
-use Rattle.syndrome.proofs.Numbered.{two_rows, both_sets}
+use Rattle.syndrome.proofs.Pairs.{two_rows, both_sets}
 
 -- Syndromes depend on the record's own cells alone, modulo 2.
 pub holds_same : (sh : Shape) (x y : Cells) (syn : List ℕ) → Same sh (bits_of x) (bits_of y) → Holds sh x syn → Holds sh y syn
@@ -51,7 +52,7 @@ module _ (sh : Shape) (s : TrackSet) (t : ℕ) (f : ℕ → ℕ) (before mid : L
   }
 
   -- A track that is no vertical one is on both diagonals.
-  crossed : (next after : List ℕ) → t ≤ data_tracks sh s → RowAdded l (row_of s) f t mid next →
+  pub crossed : (next after : List ℕ) → t ≤ data_tracks sh s → RowAdded l (row_of s) f t mid next →
       RowAdded l (row_of (other s)) f (lag sh - t) next after → TrackAdded sh s t f before after
   crossed next after h a c = law after c.rows
       (both_sets (λ d. (m : ℕ) → m < l → get_or after (row_of d * l + m) 0 ≡ (get_or mid (row_of d * l + m) 0 + back f m (offset sh d s t)) % 2) s
@@ -60,21 +61,7 @@ module _ (sh : Shape) (s : TrackSet) (t : ℕ) (f : ℕ → ℕ) (before mid : L
       (λ d m b. c.there (2 + row_of d) m (omega (arith, two_rows s)) b ∙ a.there (2 + row_of d) m (omega (arith, two_rows s)) b)
 
   -- A vertical track is on none.
-  uncrossed : data_tracks sh s < t → TrackAdded sh s t f before mid
+  pub uncrossed : data_tracks sh s < t → TrackAdded sh s t f before mid
   uncrossed h = law mid v.rows
       (λ d m b. rw (offset_vertical sh d s t h, back_early f m l b) (omega (arith, v.rows.bits (row_of d * l + m))))
       (λ d m b. refl)
-
--- The same by the code's numbers.
-pub on_diagonals : (sh : Shape) (s t : ℕ) (f : ℕ → ℕ) (before mid next after : List ℕ) → s < 2 → t ≤ data_tracks sh (set_of s) →
-    RowAdded (track_length sh) (2 + s) f 0 before mid → RowAdded (track_length sh) s f t mid next →
-    RowAdded (track_length sh) (1 - s) f (lag sh - t) next after → TrackAdded sh (set_of s) t f before after
-on_diagonals sh zero t f before mid next after k h v = crossed sh A t f before mid (omega arith) v next after h
-on_diagonals sh (suc zero) t f before mid next after k h v = crossed sh B t f before mid (omega arith) v next after h
-on_diagonals sh (suc (suc s)) t f before mid next after k h v = absurd (omega arith)
-
-pub on_vertical : (sh : Shape) (s t : ℕ) (f : ℕ → ℕ) (before after : List ℕ) → s < 2 → t < tracks sh (set_of s) → data_tracks sh (set_of s) < t →
-    RowAdded (track_length sh) (2 + s) f 0 before after → TrackAdded sh (set_of s) t f before after
-on_vertical sh zero t f before after k b h v = uncrossed sh A t f before after b v h
-on_vertical sh (suc zero) t f before after k b h v = uncrossed sh B t f before after b v h
-on_vertical sh (suc (suc s)) t f before after k b h v = absurd (omega arith)

@@ -1,5 +1,5 @@
 pub mod Table
-pub mod Numbered
+pub mod Pairs
 pub mod Parts
 pub mod Law
 pub mod OneCell

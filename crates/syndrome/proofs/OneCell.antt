@@ -10,15 +10,16 @@ use lib.Arith.{digits_div}
 use lib.ListN.{length, get_or, set}
 use lib.Seq.{get_or-set_same, get_or-set_other}
 use Rattle.code.specs.Record.{track_length, back}
+use Rattle.code.specs.declared.sizes.TrackSet.{TrackSet}
 use Rattle.code.specs.Image.{track_number, cells}
 use Rattle.code.specs.Sizes.{shape}
-use Rattle.code.specs.declared.Sizes.{Sizes}
+use Rattle.code.specs.declared.sizes.Sizes.{Sizes}
 use Rattle.code.proofs.Mono.{mono, mono_hit, mono_miss, back_mono}
 use Rattle.code.proofs.OneTrack.{mono_same, put, put_number}
 use Rattle.code.proofs.Linear.{◌⊞◌}
 use Rattle.code.proofs.Places.{cell_lt}
 use Rattle.syndrome.specs.Steps.{Rows, one_cell, RowAdded, BitAdded, TrackAdded}
-use Rattle.syndrome.specs.Syndrome.{set_of, Kept, IsCell, CellAdded, index}
+use Rattle.syndrome.specs.Syndrome.{Kept, IsCell, CellAdded, index}
 use Rattle.syndrome.proofs.Table.{row_in, row_added}
 use Rattle.syndrome.proofs.Law.{holds_same}
 
@@ -68,24 +69,23 @@ module _ (l row p off w : ℕ) (syn : List ℕ) (rows : Rows l syn) (h : row < 4
       (λ m k. rw (back_one w p m off, mono_miss (p + off) m (omega arith), mul-zero w) (omega (arith, rows.bits (row * l + m))))
       (λ r m d k. refl)
 
-module _ (z : Sizes) (s t p w : ℕ) (out syn : List ℕ) (kept : Kept z out syn) (cell : IsCell z s t p) (bit : w < 2) where
+module _ (z : Sizes) (s : TrackSet) (t p w : ℕ) (out syn : List ℕ) (kept : Kept z out syn) (cell : IsCell z s t p) (bit : w < 2) where
   -- The cell is one of the image.
   index_in : index z s t p < length out
-  index_in = omega (arith, cell_lt (shape z) (set_of s) t p cell.track_small cell.position_small, kept.image.size)
+  index_in = omega (arith, cell_lt (shape z) s t p cell.track_small cell.position_small, kept.image.size)
 
   -- What `add_any` and `add_cell` give.
-  pub cell_added : (o n : List ℕ) → BitAdded out (index z s t p) w o → TrackAdded (shape z) (set_of s) t (one_cell w p) syn n → CellAdded z s t p w out o n
+  pub cell_added : (o n : List ℕ) → BitAdded out (index z s t p) w o → TrackAdded (shape z) s t (one_cell w p) syn n → CellAdded z s t p w out o n
   cell_added o n b a = record {
     kept = record {
-      small = kept.small;
       image = record { size = b.size ∙ kept.image.size; bits = b.bits.bit };
-      holds = holds_same (shape z) (cells (shape z) out ⊞ put (set_of s) t (one_cell w p)) _ n
+      holds = holds_same (shape z) (cells (shape z) out ⊞ put s t (one_cell w p)) _ n
           (record {
             cell = λ u v m h k. rw (
               added_at out o (index z s t p) w index_in kept.image.bits bit b (track_number (shape z) u v * track_length (shape z) + m),
-              mono_table (track_length (shape z)) (track_number (shape z) (set_of s) t) (track_number (shape z) u v) p m cell.position_small k,
-              put_number (shape z) (set_of s) t (one_cell w p) u v m cell.track_small h,
-              mul_left_comm w (mono (track_number (shape z) (set_of s) t) (track_number (shape z) u v)) (mono p m),
+              mono_table (track_length (shape z)) (track_number (shape z) s t) (track_number (shape z) u v) p m cell.position_small k,
+              put_number (shape z) s t (one_cell w p) u v m cell.track_small h,
+              mul_left_comm w (mono (track_number (shape z) s t) (track_number (shape z) u v)) (mono p m),
             ) (omega arith);
           })
           (a.holds (cells (shape z) out) kept.holds);

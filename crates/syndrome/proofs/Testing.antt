@@ -1,53 +1,78 @@
 -- What the tests for 0 say of a record.
-use mathlib.Core.Path.{◌≡◌, sym, ap, ◌∙◌}
+use mathlib.Core.Path.{◌≡◌, sym, ap, subst, ◌∙◌}
 use mathlib.Core.Logic.{by_cases}
 use mathlib.Core.Bool.{Bool, true, false, true≢false}
 use mathlib.Core.List.{List}
-use Prim.Native.Nat.{ℕ, zero, suc, ◌+◌, ◌*◌, ◌-◌, ◌<◌}
+use Prim.Native.Nat.{ℕ, zero, suc, ◌+◌, ◌*◌, ◌-◌, ◌<◌, ◌≤◌}
 use native.Mathlib.Decide.{dec_lt}
 use native.Mathlib.Omega.{arith}
 use borrow.Rule.Slice.PartMut.{mid_len}
 use lib.ListN.{length, get_or, take, drop, get_or-eq_default}
-use Rattle.code.specs.Record.{TrackSet, A, B, Shape, track_length, Cells, Good}
-use Rattle.code.specs.Image.{image_size, cells}
+use Rattle.std.specs.Prelude.{MatchBool}
+use Rattle.std.specs.List.{range_with_len, AllWithin, HoldsAt}
+use Rattle.std.proofs.lemmas.List.FromFn.{length-range_with_len, get_or-range_with_len}
+use Rattle.code.specs.Record.{Shape, data_tracks, track_length, Cells, Good}
+use Rattle.code.specs.declared.sizes.TrackSet.{TrackSet}
+use Rattle.code.specs.declared.sizes.TrackSet.TheVariants.{A, B}
+use Rattle.code.specs.Image.{track_number, cells}
 use Rattle.code.specs.Sizes.{shape}
-use Rattle.code.specs.declared.Sizes.{Sizes}
+use Rattle.code.specs.declared.sizes.Sizes.{Sizes}
 use Rattle.code.proofs.Closings.{is_closed, closed_end, closed_tracks}
 use Rattle.track.specs.Track.{Zeros}
-use Rattle.syndrome.specs.Syndrome.{set_of, Kept, Tested}
-use Rattle.syndrome.specs.Steps.{TrackNumber, TrackTail, TailZero}
+use Rattle.syndrome.specs.Syndrome.{Kept, Tested}
+use Rattle.syndrome.specs.Steps.{TrackTail, TrackTested, TailZero, TailTested}
 use Rattle.syndrome.proofs.Table.{by_rows}
 use Rattle.track.proofs.Parts.{part_at}
 
--- The tail of a track, as a part of the image.
+-- The tail of track number g, as a part of the image.
 abbrev pub tail_of : Sizes → ℕ → List ℕ → List ℕ
 tail_of z g out =
     let l = track_length (shape z) in
     take (g * l + l - (g * l + z.positions)) (drop (g * l + z.positions) out)
 
-module _ (z : Sizes) (s t g : ℕ) (out : List ℕ) (r : Bool) (n : TrackNumber z s t g) (zeros : Zeros (tail_of z g out) r) where
-  -- Its cells.
-  tail_at : (i : ℕ) → z.positions + i < track_length (shape z) → get_or (tail_of z g out) i 0 ≡ cells (shape z) out (set_of s) t (z.positions + i)
-  tail_at i h =
-      let l = track_length (shape z) in
-      part_at out (g * l + z.positions) (g * l + l - (g * l + z.positions)) i (omega arith)
-      ∙ ap (λ j. get_or out j 0) (omega (arith, ap (λ v. v * l) n.is))
-
-  -- The track passes the test.
-  pub tail_is_zero : r ≡ true → TrackTail (shape z) (cells (shape z) out) (set_of s) t
-  tail_is_zero e = record {
+-- What `track_zero` gives.
+pub track_tested : (z : Sizes) (s : TrackSet) (t : ℕ) (out : List ℕ) (r : Bool) →
+    let g = track_number (shape z) s t in
+    let l = track_length (shape z) in
+    g * l + l ≤ length out → Zeros (tail_of z g out) r → TrackTested (shape z) (cells (shape z) out) s t r
+track_tested z s t out r room zeros = record {
+  yes = λ e. record {
     zero = λ m h b.
         let k : z.positions + (m - z.positions) ≡ m = omega arith in
-        rw (sym k) (sym (tail_at (m - z.positions) (omega arith)) ∙ zeros.all e (m - z.positions));
-  }
-
-  -- It fails the test.
-  pub tail_is_not : length out ≡ image_size (shape z) → r ≡ false → TrackTail (shape z) (cells (shape z) out) (set_of s) t → ⊥
-  tail_is_not size e h =
-      let l = track_length (shape z) in
+        rw (sym k) (sym (at (m - z.positions) (omega arith)) ∙ zeros.all e (m - z.positions));
+  };
+  no = λ e h.
       zeros.not_all e (λ i b.
-      let k : z.positions + i < l = omega (arith, mid_len (g * l + z.positions) (g * l + l) out (omega (arith, n.room))) in
-      tail_at i k ∙ h.zero (z.positions + i) (omega arith) k)
+      let k : z.positions + i < l = omega (arith, mid_len (g * l + z.positions) (g * l + l) out room) in
+      at i k ∙ h.zero (z.positions + i) (omega arith) k);
+}
+  where
+    g : ℕ
+    g = track_number (shape z) s t
+
+    l : ℕ
+    l = track_length (shape z)
+
+    at : (i : ℕ) → z.positions + i < l → get_or (tail_of z g out) i 0 ≡ cells (shape z) out s t (z.positions + i)
+    at i h = part_at out (g * l + z.positions) (g * l + l - (g * l + z.positions)) i (omega arith) ∙ ap (λ j. get_or out j 0) (omega arith)
+
+-- What `tail_zero` gives: all n data tracks from 1 on pass, or one of them does not.
+pub tail_tested : (sh : Shape) (x : Cells) (s : TrackSet) (n : ℕ) (r : Bool) → n + 1 - 1 ≡ data_tracks sh s →
+    MatchBool r (AllWithin (TrackTail sh x s) (range_with_len 1 (n + 1 - 1)) 0 (length (range_with_len 1 (n + 1 - 1))))
+    ((k : ℕ) × (k < length (range_with_len 1 (n + 1 - 1))) × HoldsAt (λ t. TrackTail sh x s t → ⊥) (range_with_len 1 (n + 1 - 1)) k) → TailTested sh x s r
+tail_tested sh x s n true e m = record {
+  all = λ _ t h k.
+      let i : get_or (range_with_len 1 (n + 1 - 1)) (t - 1) 0 ≡ t = get_or-range_with_len 1 (n + 1 - 1) (t - 1) 0 (omega arith) ∙ omega arith in
+      subst (TrackTail sh x s) i (m (t - 1) 0 (omega arith) (omega (arith, length-range_with_len 1 (n + 1 - 1))));
+  not_all = λ f. absurd (true≢false f);
+}
+tail_tested sh x s n false e (k, l, h) = record {
+  all = λ f. absurd (true≢false (sym f));
+  not_all = λ _ g.
+      let b : k < n + 1 - 1 = omega (arith, length-range_with_len 1 (n + 1 - 1)) in
+      let i : get_or (range_with_len 1 (n + 1 - 1)) k 0 ≡ 1 + k = get_or-range_with_len 1 (n + 1 - 1) k 0 b in
+      h 0 (subst (TrackTail sh x s) (sym i) (g (1 + k) (omega arith) (omega arith)));
+}
 
 -- A record that fails a test.
 pub not_good : (sh : Shape) (x : Cells) → (Good sh x → ⊥) → Tested sh x false

@@ -1,30 +1,12 @@
 -- What the private functions ask and give.
 use Rattle.std.specs.Prelude.{◌≡◌, ◌≢◌, Bool, true, false, List, ℕ, ◌+◌, ◌*◌, ◌-◌, ◌<◌, ◌≤◌, ◌%◌, length, get_or, set}
-use Rattle.code.specs.Record.{TrackSet, Shape, data_tracks, tracks, track_length, Cells, back}
-use Rattle.code.specs.Image.{track_number, image_size}
-use Rattle.code.specs.Sizes.{shape, Small}
-use Rattle.code.specs.declared.Sizes.{Sizes}
+use Rattle.code.specs.Record.{Shape, data_tracks, track_length, Cells, back}
+use Rattle.code.specs.declared.sizes.TrackSet.{TrackSet}
 use Rattle.track.specs.Track.{Bits}
 use Rattle.code.proofs.Linear.{◌⊞◌}
 use Rattle.code.proofs.Mono.{mono}
 use Rattle.code.proofs.OneTrack.{put}
-use Rattle.syndrome.specs.Syndrome.{set_of, Holds}
-
--- A track of a record, by the code's numbers.
-pub record IsTrack (z : Sizes) (s t : ℕ) : Type 0 where
-  pub small : Small z
-  pub set_small : s < 2
-  pub track_small : t < tracks (shape z) (set_of s)
-
--- r is how many data tracks a set has.
-pub record DataTracks (z : Sizes) (s r : ℕ) : Type 0 where
-  pub is : r ≡ data_tracks (shape z) (set_of s)
-  pub within : r ≤ z.t1 + z.t2
-
--- r is a track's number, and an image has that track.
-pub record TrackNumber (z : Sizes) (s t r : ℕ) : Type 0 where
-  pub is : r ≡ track_number (shape z) (set_of s) t
-  pub room : r * track_length (shape z) + track_length (shape z) ≤ image_size (shape z)
+use Rattle.syndrome.specs.Syndrome.{Holds}
 
 -- A track's stretch of an image, and its cells.
 pub record Stretch (l : ℕ) (xs : List ℕ) : Type 0 where
@@ -71,7 +53,12 @@ pub record TrackAdded (sh : Shape) (s : TrackSet) (t : ℕ) (f : ℕ → ℕ) (b
 pub record TrackTail (sh : Shape) (x : Cells) (s : TrackSet) (t : ℕ) : Type 0 where
   pub zero : (m : ℕ) → sh.positions ≤ m → m < track_length sh → x s t m ≡ 0
 
--- So are all data tracks of a set, and r says whether.
+-- r says whether it is.
+pub record TrackTested (sh : Shape) (x : Cells) (s : TrackSet) (t : ℕ) (r : Bool) : Type 0 where
+  pub yes : r ≡ true → TrackTail sh x s t
+  pub no : r ≡ false → TrackTail sh x s t → ⊥
+
+-- All data tracks of a set are, and r says whether.
 abbrev pub TailZero : Shape → Cells → TrackSet → Type 0
 TailZero sh x s = (t : ℕ) → 1 ≤ t → t ≤ data_tracks sh s → TrackTail sh x s t
 

@@ -1,19 +1,11 @@
 -- Syndromes: the sums of all rules, kept in one list of four rows.
-use Rattle.std.specs.Prelude.{◌≡◌, Bool, true, false, List, ℕ, zero, suc, ◌+◌, ◌*◌, ◌-◌, ◌<◌, ◌%◌, length, get_or, set}
-use Rattle.code.specs.Record.{TrackSet, A, B, Shape, tracks, lag, track_length, Cells, diagonal, vertical, Good}
+use Rattle.std.specs.Prelude.{◌≡◌, Bool, true, false, List, ℕ, ◌+◌, ◌*◌, ◌-◌, ◌<◌, ◌%◌, length, get_or, set}
+use Rattle.code.specs.Record.{other, row_of, Shape, tracks, lag, track_length, Cells, diagonal, vertical, Good}
+use Rattle.code.specs.declared.sizes.TrackSet.{TrackSet}
 use Rattle.code.specs.Image.{track_number, image_size, cells}
-use Rattle.code.specs.Sizes.{shape, Small}
-use Rattle.code.specs.declared.Sizes.{Sizes}
+use Rattle.code.specs.Sizes.{shape}
+use Rattle.code.specs.declared.sizes.Sizes.{Sizes}
 use Rattle.syndrome.specs.declared.Line.{Line}
-
--- The set of the code's number 0 or 1, and its number.
-abbrev pub set_of : ℕ → TrackSet
-set_of zero = A
-set_of (suc k) = B
-
-abbrev pub row_of : TrackSet → ℕ
-row_of A = 0
-row_of B = 1
 
 -- `syn` holds the syndromes of a record: the diagonals of A and of B, then their verticals.
 pub record Holds (sh : Shape) (x : Cells) (syn : List ℕ) : Type 0 where
@@ -29,33 +21,31 @@ pub record Image (sh : Shape) (image : List ℕ) : Type 0 where
 
 -- A working copy with its syndromes.
 pub record Kept (z : Sizes) (out syn : List ℕ) : Type 0 where
-  pub small : Small z
   pub image : Image (shape z) out
   pub holds : Holds (shape z) (cells (shape z) out) syn
 
--- A cell of a record, by the code's numbers.
-pub record IsCell (z : Sizes) (s t p : ℕ) : Type 0 where
-  pub set_small : s < 2
-  pub track_small : t < tracks (shape z) (set_of s)
+-- A cell of a record.
+pub record IsCell (z : Sizes) (s : TrackSet) (t p : ℕ) : Type 0 where
+  pub track_small : t < tracks (shape z) s
   pub position_small : p < track_length (shape z)
 
 -- Where that cell is in an image.
-abbrev pub index : Sizes → ℕ → ℕ → ℕ → ℕ
-index z s t p = track_number (shape z) (set_of s) t * track_length (shape z) + p
+abbrev pub index : Sizes → TrackSet → ℕ → ℕ → ℕ
+index z s t p = track_number (shape z) s t * track_length (shape z) + p
 
 -- One cell is turned over.
-abbrev pub turned : Sizes → ℕ → ℕ → ℕ → List ℕ → List ℕ
+abbrev pub turned : Sizes → TrackSet → ℕ → ℕ → List ℕ → List ℕ
 turned z s t p out = set out (index z s t p) (1 - get_or out (index z s t p) 0)
 
--- Where the cells of track t begin, if a set has it: in the image, and in the rows of its set's diagonal, of the other set's and of its vertical.
-pub record LineOf (z : Sizes) (s t : ℕ) (line : Line) : Type 0 where
-  pub cell : t < tracks (shape z) (set_of s) → line.cell ≡ track_number (shape z) (set_of s) t * track_length (shape z)
-  pub own : t < tracks (shape z) (set_of s) → line.own ≡ s * track_length (shape z) + t
-  pub other : t < tracks (shape z) (set_of s) → line.other ≡ (1 - s) * track_length (shape z) + (lag (shape z) - t)
-  pub vertical : t < tracks (shape z) (set_of s) → line.vertical ≡ (2 + s) * track_length (shape z)
+-- Where the cells of track t begin: in the image, and in the rows of its set's diagonal, of the other set's and of its vertical.
+pub record LineOf (z : Sizes) (s : TrackSet) (t : ℕ) (line : Line) : Type 0 where
+  pub cell : line.cell ≡ track_number (shape z) s t * track_length (shape z)
+  pub own : line.own ≡ row_of s * track_length (shape z) + t
+  pub other : line.other ≡ row_of (other s) * track_length (shape z) + (lag (shape z) - t)
+  pub vertical : line.vertical ≡ (2 + row_of s) * track_length (shape z)
 
 -- What `add_any` and `add_cell` give: the cell is turned over if w is 1, and the syndromes are those of the new copy.
-pub record CellAdded (z : Sizes) (s t p w : ℕ) (out after syn : List ℕ) : Type 0 where
+pub record CellAdded (z : Sizes) (s : TrackSet) (t p w : ℕ) (out after syn : List ℕ) : Type 0 where
   pub kept : Kept z after syn
   pub zero : w ≡ 0 → after ≡ out
   pub one : w ≡ 1 → after ≡ turned z s t p out

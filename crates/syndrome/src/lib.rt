@@ -1,63 +1,29 @@
 // What the syndromes of an image are, and the functions that change a cell and keep them.
+// `z`, `out` and `syn` stay three parameters with the one fact `Kept`: tried as a struct of the two loans with that fact as a ghost
+// field, the borrow checker covers it behind a `&mut` alone, and callers lend `out` and `syn` apart too.
 #![tactic(auto)]
 
-ghost use Rattle.std.specs.Prelude.{◌≡◌, true, ◌+◌, ◌*◌, ◌<◌, ◌≤◌, length, get_or};
-ghost use Rattle.code.specs.Record.{track_length, vertical_end, tail_tracks};
+ghost use Rattle.std.specs.Prelude.{◌≡◌, true, ◌+◌, ◌*◌, ◌<◌, ◌≤◌, length, get_or, IfSome, IsNone};
+ghost use Rattle.code.specs.Record.{tracks, track_length};
 ghost use Rattle.track.specs.Track.{Bits};
 ghost use Rattle.code.specs.Image.{cells};
-ghost use Rattle.code.specs.Sizes.{shape, Small};
-ghost use Rattle.syndrome.specs.Syndrome.{set_of, Image, Kept, IsCell, LineOf, CellAdded, Tested};
+ghost use Rattle.code.specs.Sizes.{shape};
+ghost use Rattle.syndrome.specs.Syndrome.{Image, Kept, IsCell, LineOf, CellAdded, Tested};
 ghost use Rattle.syndrome.specs.Steps.{
-  IsTrack,
-  DataTracks,
-  TrackNumber,
   Rows,
   Ready,
   one_cell,
   RowAdded,
   BitAdded,
   TrackAdded,
+  TrackTested,
   TailTested,
 };
 
-use code::Sizes;
+use code::{Sizes, TrackSet};
 
-// The number of data tracks of a set.
-pub fn data_tracks(z: Sizes, s: usize) -> usize
-    ensures { DataTracks z s result }
-{
-    if s == 0 { z.t1 } else { z.t2 }
-}
-
-// Rule 3 holds at the positions before this one.
-pub fn vertical_end(z: Sizes) -> usize
-    requires { Small z }
-    ensures { result ≡ vertical_end (shape z) }
-{
-    if z.closed {
-        z.positions + (z.t1 + z.t2 + 1)
-    } else {
-        z.positions
-    }
-}
-
-// The tracks of a set from 1 up to this one, itself not among them, are 0 in the tail.
-pub fn tail_tracks(z: Sizes, s: usize) -> usize
-    requires small { Small z }
-    requires s_bound { s < 2 }
-    ensures { result ≡ tail_tracks (shape z) (set_of s) }
-{
-    let count = data_tracks(z, s);
-    if z.closed { count + 1 } else { count + 2 }
-}
-
-// The track number of track t of a set.
-pub fn track_number(z: Sizes, s: usize, t: usize) -> usize
-    requires { IsTrack z s t }
-    ensures { TrackNumber z s t result }
-{
-    if s == 0 { t } else { z.t1 + 2 + t }
-}
+// `w < 2`, `p < l` and `t < tracks` stand where a function takes a bit, a position, a track: as types of their own they would be taken
+// apart at each use as a number.
 
 // Adds a bit to a cell of a list.
 fn add_bit(xs: &mut [u8], i: usize, w: u8)
@@ -83,19 +49,19 @@ fn add_sum(syn: &mut [u8], l: usize, row: usize, p: usize, off: usize, w: u8)
 }
 
 // Adds a bit to the sums that a cell stands in.
-fn add_sums(syn: &mut [u8], z: Sizes, s: usize, t: usize, p: usize, w: u8)
-    requires track { IsTrack z s t }
+fn add_sums(syn: &mut [u8], z: Sizes, s: TrackSet, t: usize, p: usize, w: u8)
+    requires track { t < tracks (shape z) s }
     requires p_bound { p < track_length (shape z) }
     requires rows { Rows (track_length (shape z)) syn.old }
     requires w_bound { w < 2 }
-    ensures { TrackAdded (shape z) (set_of s) t (one_cell w p) syn.old syn.new }
+    ensures { TrackAdded (shape z) s t (one_cell w p) syn.old syn.new }
 {
-    let lag = z.t1 + z.t2 + 1;
-    let l = z.positions + lag;
-    add_sum(syn, l, 2 + s, p, 0, w);
-    if t <= data_tracks(z, s) {
-        add_sum(syn, l, s, p, t, w);
-        add_sum(syn, l, 1 - s, p, lag - t, w);
+    let lag = z.lag();
+    let l = z.track_length();
+    add_sum(syn, l, 2 + s.row(), p, 0, w);
+    if t <= z.data_tracks(s) {
+        add_sum(syn, l, s.row(), p, t, w);
+        add_sum(syn, l, s.other().row(), p, lag - t, w);
     }
 }
 
@@ -123,14 +89,14 @@ pub fn cell_on_track(out: &[u8], l: usize, start: usize, p: usize) -> u8
 }
 
 // Adds a bit to a cell at any position, and to the syndromes that it stands in. Does the same whether the bit is 0 or 1.
-pub fn add_any(out: &mut [u8], syn: &mut [u8], z: Sizes, s: usize, t: usize, p: usize, w: u8)
+pub fn add_any(out: &mut [u8], syn: &mut [u8], z: Sizes, s: TrackSet, t: usize, p: usize, w: u8)
     requires kept { Kept z out.old syn.old }
     requires cell { IsCell z s t p }
     requires w_bound { w < 2 }
     ensures { CellAdded z s t p w out.old out.new syn.new }
 {
-    let l = z.positions + (z.t1 + z.t2 + 1);
-    let start = track_number(z, s, t) * l;
+    let l = z.track_length();
+    let start = z.track_number(s, t) * l;
     add_on_track(out, l, start, p, w);
     add_sums(syn, z, s, t, p, w);
 }
@@ -144,78 +110,69 @@ pub struct Line {
     pub vertical: usize,
 }
 
-// The line of track t of a set. A number past the set's tracks has none.
-pub fn find_line(z: Sizes, s: usize, t: usize) -> Line
-    requires small { Small z }
-    requires s_bound { s < 2 }
-    ensures { LineOf z s t result }
+// The line of track t of a set, where it has that track.
+pub fn find_line(z: Sizes, s: TrackSet, t: usize) -> Option<Line>
+    ensures some { IfSome result (λ line. (t < tracks (shape z) s) × LineOf z s t line) }
+    ensures none { IsNone result → tracks (shape z) s ≤ t }
 {
-    if data_tracks(z, s) + 2 <= t {
-        return Line {
-            cell: 0,
-            own: 0,
-            other: 0,
-            vertical: 0,
-        };
+    if z.tracks(s) <= t {
+        return None;
     }
-    let lag = z.t1 + z.t2 + 1;
-    let l = z.positions + lag;
-    Line {
-        cell: track_number(z, s, t) * l,
-        own: s * l + t,
-        other: (1 - s) * l + (lag - t),
-        vertical: (2 + s) * l,
-    }
+    let lag = z.lag();
+    let l = z.track_length();
+    Some(Line {
+        cell: z.track_number(s, t) * l,
+        own: s.row() * l + t,
+        other: s.other().row() * l + (lag - t),
+        vertical: (2 + s.row()) * l,
+    })
 }
 
 // Adds a bit to a cell at a position of the data, by its track's line, and to the syndromes that it stands in. Does the same whether the bit is 0 or 1.
+// (Beside `add_any`, since a line is found once for many cells, and at a position of the data no sum lies past its row's end.)
 pub fn add_cell(
     out: &mut [u8],
     syn: &mut [u8],
     z: Sizes,
-    s: usize,
+    s: TrackSet,
     t: usize,
     line: Line,
     p: usize,
     w: u8,
 )
     requires kept { Kept z out.old syn.old }
-    requires track { IsTrack z s t }
+    requires track { t < tracks (shape z) s }
     requires line_of { LineOf z s t line }
     requires p_lt_positions { p < z.positions }
     requires w_bound { w < 2 }
     ensures { CellAdded z s t p w out.old out.new syn.new }
 {
-    let l = z.positions + (z.t1 + z.t2 + 1);
+    let l = z.track_length();
     add_on_track(out, l, line.cell, p, w);
     add_bit(syn, line.vertical + p, w);
-    if t <= data_tracks(z, s) {
+    if t <= z.data_tracks(s) {
         add_bit(syn, line.own + p, w);
         add_bit(syn, line.other + p, w);
     }
 }
 
-// Are the data tracks of a set 0 in the tail?
-fn tail_zero(out: &[u8], z: Sizes, s: usize) -> bool
-    requires small { Small z }
-    requires s_bound { s < 2 }
+// Is a track 0 in the tail?
+fn track_zero(out: &[u8], z: Sizes, s: TrackSet, t: usize) -> bool
     requires image { Image (shape z) out.now }
-    ensures { TailTested (shape z) (cells (shape z) out.now) (set_of s) result }
+    requires track { t < tracks (shape z) s }
+    ensures { TrackTested (shape z) (cells (shape z) out.now) s t result }
 {
-    let positions = z.positions;
-    let l = positions + (z.t1 + z.t2 + 1);
-    let count = data_tracks(z, s);
-    let mut t = 1;
-    while t <= count {
-        let first = track_number(z, s, t) * l;
-        let start = first + positions;
-        let end = first + l;
-        if !track::all_zero(&out[start..end]) {
-            return false;
-        }
-        t += 1;
-    }
-    true
+    let start = z.track_number(s, t) * z.track_length();
+    let end = start + z.track_length();
+    track::all_zero(&out[start + z.positions..end])
+}
+
+// Are all data tracks of a set?
+fn tail_zero(out: &[u8], z: Sizes, s: TrackSet) -> bool
+    requires image { Image (shape z) out.now }
+    ensures { TailTested (shape z) (cells (shape z) out.now) s result }
+{
+    (1..z.data_tracks(s) + 1).all(|t| track_zero(out, z, s, t))
 }
 
 // Is a record good, whose tail is closed and whose syndromes are at hand?
@@ -224,12 +181,8 @@ pub fn is_good(out: &[u8], syn: &[u8], z: Sizes) -> bool
     requires closed_value { z.closed ≡ true }
     ensures { Tested (shape z) (cells (shape z) out.now) result }
 {
-    let l = z.positions + (z.t1 + z.t2 + 1);
-    if !track::all_zero(&syn[0..4 * l]) {
-        return false;
-    }
-    if !tail_zero(out, z, 0) {
-        return false;
-    }
-    tail_zero(out, z, 1)
+    let l = z.track_length();
+    track::all_zero(&syn[0..4 * l])
+        && tail_zero(out, z, TrackSet::A)
+        && tail_zero(out, z, TrackSet::B)
 }

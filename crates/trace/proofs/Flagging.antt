@@ -2,7 +2,8 @@
 use mathlib.Core.Path.{◌≡◌, sym, ap, ◌∙◌}
 use mathlib.Core.Bool.{Bool, ◌||◌}
 use native.Mathlib.Omega.{arith}
-use Rattle.code.specs.Record.{A, B, closed_tail, Shape, Cells}
+use Rattle.code.specs.declared.sizes.TrackSet.TheVariants.{A, B}
+use Rattle.code.specs.Record.{closed_tail, Shape, Cells}
 use Rattle.code.specs.Flags.{TrackFlags, flag_count, Within}
 use Rattle.code.specs.Reach.{is, Choice, Allowed, with_extras, InReach}
 use Rattle.code.specs.declared.Reach.{Reach}

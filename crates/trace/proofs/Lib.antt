@@ -1,6 +1,5 @@
-pub mod Choices
-pub mod Naming
 pub mod Flagging
+pub mod Choices
 pub mod Trying
 pub mod Searching
 pub mod Records

@@ -1,74 +1,98 @@
 -- The search among the choices.
-use mathlib.Core.Path.{◌≡◌, sym, ◌∙◌}
-use mathlib.Core.Logic.{by_cases}
-use mathlib.Core.Bool.{true, false, true≢false}
+use mathlib.Core.Path.{◌≡◌, refl, sym, ap, subst}
 use mathlib.Core.List.{List}
-use Prim.Native.Nat.{ℕ, ◌+◌, ◌<◌, ◌≤◌}
+use Prim.Native.Nat.{ℕ, zero, suc, ◌+◌, ◌-◌, ◌<◌, ◌≤◌}
 use native.Mathlib.Decide.{dec_lt}
 use native.Mathlib.Omega.{arith}
 use borrow.Author.Count.{below_more}
-use Rattle.code.specs.Record.{B, tracks, Cells}
-use Rattle.code.specs.Flags.{TrackFlags}
-use Rattle.code.specs.Sizes.{shape, Small}
-use Rattle.code.specs.declared.Sizes.{Sizes}
-use Rattle.code.specs.declared.Reach.{Reach}
+use Rattle.std.specs.Prelude.{Option, None, Some, SomeIff}
+use Rattle.code.specs.declared.sizes.TrackSet.{TrackSet}
+use Rattle.code.specs.declared.sizes.TrackSet.TheVariants.{A, B}
+use Rattle.code.specs.Record.{tracks}
+use Rattle.code.specs.Sizes.{shape}
+use Rattle.code.specs.declared.sizes.Sizes.{Sizes}
+use Rattle.code.specs.Reach.{size}
+use Rattle.code.specs.Answers.{extra_of}
+use Rattle.plans.specs.Plans.{place}
+use Rattle.plans.specs.declared.Form.{Form}
 use Rattle.errors.specs.Steps.{Fresh}
-use Rattle.repair.specs.declared.Needs.{Needs}
-use Rattle.repair.specs.Steps.{Prepared}
-use Rattle.trace.specs.declared.Trial.{Trial}
-use Rattle.trace.specs.declared.Hit.{Hit}
-use Rattle.trace.specs.Steps.{choice_at, IsChoice, LastA, LastB, Fits, Tried, Searched}
+use Rattle.trace.specs.declared.Extras.{Extras}
+use Rattle.trace.specs.declared.Tracer.{Tracer}
+use Rattle.trace.specs.Steps.{IsTrack, IsChoice, Last, NoFit, Tried, Searched}
 use Rattle.trace.proofs.Choices.{reach_fits}
 
--- No good record is in reach by the choice a, b, of whatever record these are the sums.
-abbrev pub NoFit : Sizes → Reach → TrackFlags → List ℕ → Needs → ℕ → ℕ → Type 0
-NoFit z w f rows need a b = (image out : List ℕ) → Prepared z f image out rows need → (y : Cells) → Fits (shape z) w f image (choice_at a b) y → ⊥
+-- The extra at a place: none at 0, track t at t + 1.
+abbrev pub at : ℕ → Option ℕ
+at zero = None
+at (suc t) = Some t
 
--- The choices with less than a in A have been tried, and of those with a the ones with less than b in B.
-pub record Seeking (z : Sizes) (w : Reach) (f : TrackFlags) (rows : List ℕ) (need : Needs) (start a b : ℕ) (found : List ℕ) : Type 0 where
-  pub fresh : Fresh found start
-  pub rows_tried : (k : ℕ) → k < a → (l : ℕ) → l ≤ tracks (shape z) B → NoFit z w f rows need k l
-  pub row_tried : (l : ℕ) → l < b → NoFit z w f rows need a l
+at_place : (e : Option ℕ) → at (place e) ≡ e
+at_place None = refl
+at_place (Some t) = refl
 
-module _ (z : Sizes) (w : Reach) (f : TrackFlags) (rows : List ℕ) (need : Needs) (start : ℕ) where
-  -- At the start none has been tried.
-  pub seeking_none : (found : List ℕ) → Fresh found start → Seeking z w f rows need start 0 0 found
-  seeking_none found h = record { fresh = h; rows_tried = λ k l. absurd (omega arith); row_tried = λ l k. absurd (omega arith) }
+-- So the code has it.
+pub at_is : (i : ℕ) (e : Option ℕ) → SomeIff e (1 ≤ i) (i - 1) → e ≡ at i
+at_is zero None h = refl
+at_is zero (Some t) h = absurd (omega (arith, h.0))
+at_is (suc i) None h = absurd (h (omega arith))
+at_is (suc i) (Some t) h = ap Some (omega (arith, h.1))
 
-  module _ (a b : ℕ) (found : List ℕ) (s : Seeking z w f rows need start a b found) where
+-- It is a track of a set whose choices have the place.
+pub at_track : (z : Sizes) (s : TrackSet) (i : ℕ) (e : Option ℕ) → SomeIff e (1 ≤ i) (i - 1) → i < 1 + tracks (shape z) s → IsTrack z s e
+at_track z s i None h l t k = cc
+at_track z s i (Some u) h l t k = let j : u ≡ t = cc in omega (arith, h.1)
+
+abbrev pub pair : Option ℕ → Option ℕ → Extras
+pair a b = record { a = a; b = b }
+
+-- The choices with a place before i in A have been tried, and of those with place i the ones with a place before j in B.
+pub record Seeking (tracer : Tracer) (rows : List ℕ) (i j : ℕ) (found : List ℕ) : Type 0 where
+  pub fresh : Fresh found tracer.start
+  pub rows_tried : (k : ℕ) → k < i → (b : Option ℕ) → IsTrack tracer.z B b → NoFit tracer rows (pair (at k) b)
+  pub row_tried : (l : ℕ) → l < j → NoFit tracer rows (pair (at i) (at l))
+
+module _ (tracer : Tracer) (rows : List ℕ) where
+  module _ (i j : ℕ) (found : List ℕ) (s : Seeking tracer rows i j found) where
     -- One choice more.
-    pub seeking_more : (after : List ℕ) (r : Trial) → r.fits ≡ false → Tried z w f rows need a b start after r → Seeking z w f rows need start a (b + 1) after
-    seeking_more after r h t = record {
+    pub seeking_more : (after : List ℕ) (e : Extras) → e ≡ pair (at i) (at j) → Tried tracer rows e after None → Seeking tracer rows i (j + 1) after
+    seeking_more after e h t = record {
       fresh = t.fresh;
       rows_tried = s.rows_tried;
-      row_tried = below_more _ b s.row_tried (t.no_fit h);
+      row_tried = below_more (λ l. NoFit tracer rows (pair (at i) (at l))) j s.row_tried (subst (NoFit tracer rows) h (t.no_fit refl));
     }
 
     -- One row of choices more.
-    pub seeking_row : (last : ℕ) → LastB z w a last → last < b → Seeking z w f rows need start (a + 1) 0 found
-    seeking_row last in_b h = record {
+    pub seeking_row : (r : ℕ) → Last tracer.z tracer.w B (size (extra_of (at i))) r → r ≤ j → Seeking tracer rows (i + 1) 0 found
+    seeking_row r last h = record {
       fresh = s.fresh;
-      rows_tried = below_more _ a s.rows_tried (λ l k. by_cases (dec_lt l b) (s.row_tried l) (λ d image out prepared y n. in_b.past f l (omega arith) n.allowed));
+      rows_tried = below_more (λ k. (b : Option ℕ) → IsTrack tracer.z B b → NoFit tracer rows (pair (at k) b)) i s.rows_tried (λ b _. row b (dec_lt (place b) r));
       row_tried = λ l k. absurd (omega arith);
     }
+      where
+        row : (b : Option ℕ) → Dec (place b < r) → NoFit tracer rows (pair (at i) b)
+        row b (yes l) = rw at_place at (s.row_tried (place b) (omega arith))
+        row None (no d) = absurd (d last.some)
+        row (Some t) (no d) = λ image out prepared y n. last.past _ _ t (omega arith) refl (omega arith) n.allowed
 
     -- All of them.
-    pub seeking_all : Small z → (last : ℕ) → LastA z w last → last < a → (r : Hit) → r.found ≡ false → Searched z w f rows need found r
-    seeking_all small last in_a h r e = record {
+    pub seeking_all : (r : ℕ) → Last tracer.z tracer.w A 0 r → r ≤ i → Searched tracer rows found None
+    seeking_all r last h = record {
       words = s.fresh.rows;
-      is_choice = λ i. absurd (true≢false (sym i ∙ e));
-      fits = λ i. absurd (true≢false (sym i ∙ e));
-      no_record = λ i image out prepared y g n. reach_fits z w f image y small g n (λ k l c fits. by_cases (dec_lt k a)
-          (λ j. s.rows_tried k j l c.in_b image out prepared y fits)
-          (λ d. in_a.past f k l (omega arith) fits.allowed));
+      is_choice = λ v k. cc;
+      fits = λ v k. cc;
+      no_record = λ _ image out prepared y g n. reach_fits tracer.z tracer.w _ image y g n (λ e c fits. none e.a e.b c.in_b (dec_lt (place e.a) r) image out prepared y fits);
     }
+      where
+        none : (a b : Option ℕ) → IsTrack tracer.z B b → Dec (place a < r) → NoFit tracer rows (pair a b)
+        none a b c (yes l) = rw at_place at (s.rows_tried (place a) (omega arith) b c)
+        none None b c (no d) = absurd (d last.some)
+        none (Some t) b c (no d) = λ image out prepared y n. last.past _ _ t (omega arith) refl (omega arith) n.allowed
 
   -- A choice that fits.
-  pub searched : (a b : ℕ) (after : List ℕ) (r : Trial) → r.fits ≡ true → IsChoice z a b → Tried z w f rows need a b start after r →
-      Searched z w f rows need after (record { found = true; a = a; b = b; form = r.form })
-  searched a b after r h c t = record {
+  pub searched : (after : List ℕ) (e : Extras) (p : Form) → IsChoice tracer.z e → Tried tracer rows e after (Some p) → Searched tracer rows after (Some (record { form = p; extras = e }))
+  searched after e p c t = record {
     words = t.fresh.rows;
-    is_choice = λ i. c;
-    fits = λ i. t.fits h;
-    no_record = λ i. absurd (true≢false i);
+    is_choice = λ v h. let i : record { form = p; extras = e } ≡ v = cc in rw (sym i) c;
+    fits = λ v h. let i : record { form = p; extras = e } ≡ v = cc in rw (sym i) (t.fits p refl);
+    no_record = λ h. cc;
   }

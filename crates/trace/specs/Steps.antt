@@ -1,72 +1,76 @@
 -- What the steps of tracing give.
-use Rattle.std.specs.Prelude.{◌≡◌, ◌≢◌, Bool, true, false, List, ℕ, zero, suc, ◌+◌, ◌<◌, ◌≤◌, eqb, length, get_or}
-use Rattle.code.specs.Record.{TrackSet, A, B, Shape, tracks, track_length, vertical_end, Cells, Good}
-use Rattle.code.specs.Image.{cells}
+use Rattle.std.specs.Prelude.{◌≡◌, ◌≢◌, Bool, true, false, Option, None, Some, List, ℕ, suc, ◌+◌, ◌<◌, ◌≤◌, eqb, length, get_or}
+use Rattle.code.specs.declared.sizes.TrackSet.{TrackSet}
+use Rattle.code.specs.declared.sizes.TrackSet.TheVariants.{A, B}
+use Rattle.code.specs.Record.{other, Shape, tracks, track_length, vertical_end, Cells, Good}
+use Rattle.code.specs.Image.{track_number, image_size, cells}
 use Rattle.code.specs.Flags.{TrackFlags, whole, AgreeOff, Within}
-use Rattle.code.specs.Reach.{pick, Extra, none, extra, Choice, Allowed, with_extras, InReach}
+use Rattle.code.specs.Reach.{pick, Extra, none, extra, size, Choice, Allowed, with_extras, InReach}
 use Rattle.code.specs.Calls.{Result, mended}
-use Rattle.code.specs.Sizes.{shape, Small}
-use Rattle.code.specs.declared.Sizes.{Sizes}
+use Rattle.code.specs.Answers.{extra_of}
+use Rattle.code.specs.Sizes.{shape}
+use Rattle.code.specs.declared.sizes.Sizes.{Sizes}
 use Rattle.code.specs.declared.Reach.{Reach}
 use Rattle.solver.specs.Solver.{marked}
-use Rattle.changes.specs.Changes.{HasTrack, changed_at}
-use Rattle.plans.specs.declared.Three.{Three}
+use Rattle.changes.specs.Changes.{changed_at, names}
 use Rattle.plans.specs.declared.Form.{Form}
 use Rattle.plans.specs.Plans as plans
 use Rattle.errors.specs.Rows.{Rows}
 use Rattle.errors.specs.Steps.{Fresh, Found}
-use Rattle.mend.specs.Mend.{StartOf}
-use Rattle.repair.specs.declared.Needs.{Needs}
-use Rattle.repair.specs.Steps.{need_of, Prepared, names}
-use Rattle.trace.specs.declared.Trial.{Trial}
+use Rattle.mend.specs.Mend.{StartOf, Explained}
+use Rattle.repair.specs.Steps.{need_of, Prepared}
+use Rattle.trace.specs.declared.Extras.{Extras}
 use Rattle.trace.specs.declared.Hit.{Hit}
+use Rattle.trace.specs.declared.Tracer.{Tracer}
 
 -- ## Choices of extras
 
--- An extra by its number: 0 for none, t + 1 for track t.
-abbrev pub extra_at : ℕ → Extra
-extra_at zero = none
-extra_at (suc t) = extra t
+-- The extra of a set, none or a track.
+abbrev pub extra_in : Extras → TrackSet → Option ℕ
+extra_in e A = e.a
+extra_in e B = e.b
 
--- A choice of extras, one a set.
-abbrev pub choice_at : ℕ → ℕ → Choice
-choice_at a b A = extra_at a
-choice_at a b B = extra_at b
+abbrev pub choice_of : Extras → Choice
+choice_of e s = extra_of (extra_in e s)
 
-pub record IsChoice (z : Sizes) (a b : ℕ) : Type 0 where
-  pub small : Small z
-  pub in_a : a ≤ tracks (shape z) A
-  pub in_b : b ≤ tracks (shape z) B
+-- An extra is none or a track of its set.
+abbrev pub IsTrack : Sizes → TrackSet → Option ℕ → Type 0
+IsTrack z s e = (t : ℕ) → e ≡ Some t → t < tracks (shape z) s
 
--- One mark more: that of an extra of the set whose first track has number `first`.
-pub record OneMore (first e : ℕ) (marks r : List ℕ) : Type 0 where
+pub record IsChoice (z : Sizes) (e : Extras) : Type 0 where
+  pub in_a : IsTrack z A e.a
+  pub in_b : IsTrack z B e.b
+
+-- One mark more: that of an extra of set s.
+pub record OneMore (sh : Shape) (s : TrackSet) (e : Option ℕ) (marks r : List Bool) : Type 0 where
   pub size : length r ≡ length marks
-  pub here : (t : ℕ) → e ≡ suc t → get_or r (first + t) 0 ≡ 1
-  pub there : (g : ℕ) → ((t : ℕ) → e ≡ suc t → g ≢ first + t) → get_or r g 0 ≡ get_or marks g 0
+  pub here : (t : ℕ) → e ≡ Some t → get_or r (track_number sh s t) false ≡ true
+  pub there : (g : ℕ) → ((t : ℕ) → e ≡ Some t → g ≢ track_number sh s t) → get_or r g false ≡ get_or marks g false
 
 -- The marks with the extras of a choice.
-pub record Widened (sh : Shape) (marks : List ℕ) (e : Choice) (r : List ℕ) : Type 0 where
+pub record Widened (sh : Shape) (marks : List Bool) (e : Choice) (r : List Bool) : Type 0 where
   pub size : length r ≡ length marks
   pub flags : (s : TrackSet) (t : ℕ) → t < tracks sh s → marked sh r s t ≡ with_extras (marked sh marks) e s t
 
 -- r says whether an extra is none or has no mark.
-pub record Free (first e : ℕ) (marks : List ℕ) (r : Bool) : Type 0 where
-  pub yes_free : r ≡ true → (t : ℕ) → e ≡ suc t → get_or marks (first + t) 0 ≢ 1
-  pub not_free : r ≡ false → ((t : ℕ) → e ≡ suc t → get_or marks (first + t) 0 ≢ 1) → ⊥
+pub record Free (sh : Shape) (s : TrackSet) (e : Option ℕ) (marks : List Bool) (r : Bool) : Type 0 where
+  pub yes_free : r ≡ true → (t : ℕ) → e ≡ Some t → marked sh marks s t ≡ false
+  pub not_free : r ≡ false → ((t : ℕ) → e ≡ Some t → marked sh marks s t ≡ false) → ⊥
+
+-- A reach leaves room for a choice.
+abbrev pub HasRoom : Reach → Choice → Type 0
+HasRoom w e = (size (e A) ≤ w.a) × (size (e B) ≤ w.b) × (size (e A) + size (e B) ≤ w.all)
 
 -- r says whether a reach allows a choice.
 pub record Allows (sh : Shape) (w : Reach) (f : TrackFlags) (e : Choice) (r : Bool) : Type 0 where
   pub yes_allowed : r ≡ true → Allowed sh w f e
   pub not_allowed : r ≡ false → Allowed sh w f e → ⊥
 
--- No choice past r in A is allowed, and none past r in B beside a in A.
-pub record LastA (z : Sizes) (w : Reach) (r : ℕ) : Type 0 where
-  pub within : r ≤ tracks (shape z) A
-  pub past : (f : TrackFlags) (a b : ℕ) → r < a → Allowed (shape z) w f (choice_at a b) → ⊥
-
-pub record LastB (z : Sizes) (w : Reach) (a r : ℕ) : Type 0 where
-  pub within : r ≤ tracks (shape z) B
-  pub past : (f : TrackFlags) (b : ℕ) → r < b → Allowed (shape z) w f (choice_at a b) → ⊥
+-- The first r choices in set s are none and tracks 0 to r - 2. No other is allowed beside so many extras in the other set.
+pub record Last (z : Sizes) (w : Reach) (s : TrackSet) (beside r : ℕ) : Type 0 where
+  pub some : 1 ≤ r
+  pub within : r ≤ 1 + tracks (shape z) s
+  pub past : (f : TrackFlags) (e : Choice) (t : ℕ) → beside ≤ size (e (other s)) → e s ≡ extra t → r ≤ suc t → Allowed (shape z) w f e → ⊥
 
 -- Every choice that a reach allows stays within the limit.
 abbrev pub StaysWithin : Shape → Reach → TrackFlags → Type 0
@@ -80,63 +84,62 @@ pub record Fits (sh : Shape) (w : Reach) (f : TrackFlags) (image : List ℕ) (e 
   pub allowed : Allowed sh w f e
   pub agree : AgreeOff sh (whole (with_extras f e)) (cells sh image) y
 
--- The number of a choice's extra in a set.
-abbrev pub extra_in : ℕ → ℕ → TrackSet → ℕ
-extra_in a b A = a
-extra_in a b B = b
+-- The flags that the tracer works with.
+abbrev pub flags_of : Tracer → TrackFlags
+flags_of tracer = marked (shape tracer.z) tracer.marks
 
--- r says whether an extra explains the tails of a set that were not 0.
-pub record Explains (need e : ℕ) (r : Bool) : Type 0 where
-  pub yes_explained : r ≡ true → need ≢ 0 → need ≡ e
-  pub not_explained : r ≡ false → (need ≢ 0) × (need ≢ e)
-
--- What the tracer works with: sums, marks, the marked tracks, and a reach that stays within the limit.
-pub record Traceable (z : Sizes) (w : Reach) (marks rows : List ℕ) (x y : Three) (start : ℕ) : Type 0 where
-  pub small : Small z
+-- Its sums, its marks and the marked tracks, and a reach that stays within the limit.
+pub record Traceable (tracer : Tracer) (rows : List ℕ) : Type 0 where
   pub sums : Rows 4 rows
-  pub marks_size : length marks ≡ 18
-  pub within : StaysWithin (shape z) w (marked (shape z) marks)
-  pub in_a : plans.ThreeOf (shape z) (marked (shape z) marks) A x
-  pub in_b : plans.ThreeOf (shape z) (marked (shape z) marks) B y
-  pub started : StartOf (track_length (shape z)) rows start
+  pub marks_size : length tracer.marks ≡ 18
+  pub within : StaysWithin (shape tracer.z) tracer.w (flags_of tracer)
+  pub in_a : plans.ThreeOf (shape tracer.z) (flags_of tracer) A tracer.x
+  pub in_b : plans.ThreeOf (shape tracer.z) (flags_of tracer) B tracer.y
+  pub started : StartOf (track_length (shape tracer.z)) rows tracer.start
 
 -- A choice fits: errors were found on its tracks and pass all tests, and its extras explain the tails.
-pub record Fitting (z : Sizes) (w : Reach) (f : TrackFlags) (rows : List ℕ) (need : Needs) (a b : ℕ) (p : Form) (words : List ℕ) : Type 0 where
-  pub allowed : Allowed (shape z) w f (choice_at a b)
-  pub form : plans.Fits (shape z) (with_extras f (choice_at a b)) p
-  pub found : Found z (vertical_end (shape z)) p rows words true
-  pub explained : (s : TrackSet) → need_of need s ≢ 0 → need_of need s ≡ extra_in a b s
+pub record Fitting (tracer : Tracer) (rows : List ℕ) (e : Extras) (p : Form) (words : List ℕ) : Type 0 where
+  pub allowed : Allowed (shape tracer.z) tracer.w (flags_of tracer) (choice_of e)
+  pub form : plans.Fits (shape tracer.z) (with_extras (flags_of tracer) (choice_of e)) p
+  pub found : Found tracer.z (vertical_end (shape tracer.z)) p rows words true
+  pub explained : (s : TrackSet) → Explained (need_of tracer.need s) (extra_in e s)
 
--- One choice is tried. Where it fails no good record is in reach by it, of whatever record these are the sums.
-pub record Tried (z : Sizes) (w : Reach) (f : TrackFlags) (rows : List ℕ) (need : Needs) (a b start : ℕ) (after : List ℕ) (r : Trial) : Type 0 where
-  pub fresh : Fresh after start
-  pub fits : r.fits ≡ true → Fitting z w f rows need a b r.form after
-  pub no_fit : r.fits ≡ false → (image out : List ℕ) → Prepared z f image out rows need → (y : Cells) → Fits (shape z) w f image (choice_at a b) y → ⊥
+-- No good record is in reach by a choice, of whatever record these are the sums.
+abbrev pub NoFit : Tracer → List ℕ → Extras → Type 0
+NoFit tracer rows e = (image out : List ℕ) → Prepared tracer.z (flags_of tracer) image out rows tracer.need → (y : Cells) →
+    Fits (shape tracer.z) tracer.w (flags_of tracer) image (choice_of e) y → ⊥
+
+-- One choice is tried: a form, where it fits.
+pub record Tried (tracer : Tracer) (rows : List ℕ) (e : Extras) (after : List ℕ) (r : Option Form) : Type 0 where
+  pub fresh : Fresh after tracer.start
+  pub fits : (p : Form) → r ≡ Some p → Fitting tracer rows e p after
+  pub no_fit : r ≡ None → NoFit tracer rows e
 
 -- All choices are tried, up to one that fits.
-pub record Searched (z : Sizes) (w : Reach) (f : TrackFlags) (rows : List ℕ) (need : Needs) (after : List ℕ) (r : Hit) : Type 0 where
+pub record Searched (tracer : Tracer) (rows after : List ℕ) (r : Option Hit) : Type 0 where
   pub words : Rows 5 after
-  pub is_choice : r.found ≡ true → IsChoice z r.a r.b
-  pub fits : r.found ≡ true → Fitting z w f rows need r.a r.b r.form after
-  pub no_record : r.found ≡ false → (image out : List ℕ) → Prepared z f image out rows need → (y : Cells) → Good (shape z) y →
-      InReach (shape z) w f (cells (shape z) image) y → ⊥
+  pub is_choice : (h : Hit) → r ≡ Some h → IsChoice tracer.z h.extras
+  pub fits : (h : Hit) → r ≡ Some h → Fitting tracer rows h.extras h.form after
+  pub no_record : r ≡ None → (image out : List ℕ) → Prepared tracer.z (flags_of tracer) image out rows tracer.need → (y : Cells) → Good (shape tracer.z) y →
+      InReach (shape tracer.z) tracer.w (flags_of tracer) (cells (shape tracer.z) image) y → ⊥
 
 -- ## What is named
 
--- An extra of a set whose first track has number `first`, 0 for none and t + 1 for track t, is a track of two images.
-pub record HasExtra (l first e : ℕ) (image out : List ℕ) : Type 0 where
-  pub small : first + e ≤ 18
-  pub has : (t : ℕ) → e ≡ suc t → HasTrack l (first + t) image out
+-- Two images of a record's size.
+pub record SameImages (z : Sizes) (image out : List ℕ) : Type 0 where
+  pub image_has : length image ≡ image_size (shape z)
+  pub out_has : length out ≡ image_size (shape z)
 
--- It is named if it is changed.
-unfoldable pub named_at : ℕ → List ℕ → List ℕ → ℕ → ℕ → Extra
-named_at l image out first zero = none
-named_at l image out first (suc t) = pick (eqb (changed_at l image out (first + t)) 0) none (extra (first + t))
+-- An extra of set s is named by its track number, if it is changed.
+abbrev pub named_at : Shape → List ℕ → List ℕ → TrackSet → Option ℕ → Extra
+named_at sh image out s None = none
+named_at sh image out s (Some t) =
+    let g = track_number sh s t in pick (eqb (changed_at (track_length sh) image out g) 0) none (extra g)
 
--- The extras that are named, by the numbers of a choice.
-abbrev pub names_at : Shape → List ℕ → List ℕ → ℕ → ℕ → TrackSet → Extra
-names_at sh image out a b = names (named_at (track_length sh) image out 0 a) (named_at (track_length sh) image out (tracks sh A) b)
+-- The extras of a choice that are named.
+abbrev pub names_at : Shape → List ℕ → List ℕ → Extras → TrackSet → Extra
+names_at sh image out e = names (named_at sh image out A e.a) (named_at sh image out B e.b)
 
 -- Answer 0 with what was changed.
-abbrev pub mended_at : Shape → List ℕ → List ℕ → ℕ → ℕ → Result
-mended_at sh image out a b = mended sh (cells sh image) (cells sh out) (names_at sh image out a b)
+abbrev pub mended_at : Shape → List ℕ → List ℕ → Extras → Result
+mended_at sh image out e = mended sh (cells sh image) (cells sh out) (names_at sh image out e)

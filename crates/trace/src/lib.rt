@@ -1,338 +1,314 @@
 // Tracer: the choices of extra tracks that a reach allows, one after the other.
 #![tactic(auto)]
 
-ghost use Rattle.std.specs.Prelude.{◌≡◌, ◌+◌, ◌≤◌, min, length};
+ghost use Rattle.std.specs.Prelude.{◌≡◌, ◌↔◌, IsTrue, ◌≤◌};
+ghost use Rattle.code.specs.declared.sizes.TrackSet.{TrackSet};
+ghost use Rattle.code.specs.declared.sizes.TrackSet.TheVariants.{A, B};
 ghost use Rattle.code.specs.Reach.{code_reach, size, ceiling_reach, both};
 ghost use Rattle.code.specs.Calls.{Traces};
 ghost use Rattle.code.specs.Promises.{Traced, TracedWithin};
 ghost use Rattle.code.specs.Answers.{extra_of, result_of};
-ghost use Rattle.code.specs.Sizes.{shape, Small};
+ghost use Rattle.code.specs.Sizes.{shape};
 ghost use Rattle.solver.specs.Solver.{marked};
 ghost use Rattle.changes.specs.Changes.{OnlyMarked};
 ghost use Rattle.errors.specs.Steps.{Fresh};
 ghost use Rattle.repair.specs.Steps.{Given};
-ghost use Rattle.trace.specs.Steps.{HasExtra, named_at, extra_at, choice_at, IsChoice, OneMore, Widened, Free, Allows, LastA, LastB, StaysWithin, Explains, Traceable, Tried, Searched, mended_at};
+ghost use Rattle.trace.specs.Steps.{
+  SameImages,
+  named_at,
+  choice_of,
+  IsTrack,
+  IsChoice,
+  OneMore,
+  Widened,
+  Free,
+  HasRoom,
+  Allows,
+  Last,
+  StaysWithin,
+  Traceable,
+  Tried,
+  Searched,
+  mended_at,
+};
 
-use code::{Answer, Extra, Reach, Sizes, plain_answer};
+use code::{Answer, Reach, Refusal, Sizes, TrackSet};
 use plans::{Form, Three};
 use repair::Needs;
 
 // ---- What is allowed
 
-// The extras that a code allows in A, in B and in all.
-pub const MOST_A: [usize; 6] = [0, 0, 1, 0, 1, 1];
-
-pub const MOST_B: [usize; 6] = [0, 0, 0, 1, 1, 1];
-
-pub const MOST: [usize; 6] = [0, 0, 1, 1, 1, 2];
-
-// The smaller of two numbers.
-fn least(x: usize, y: usize) -> usize
-    ensures { result ≡ min x y }
-{
-    if x < y { x } else { y }
-}
+// The extras that a code allows.
+const MOST: [Reach; 6] = [
+    Reach { a: 0, b: 0, all: 0 },
+    Reach { a: 0, b: 0, all: 0 },
+    Reach { a: 1, b: 0, all: 1 },
+    Reach { a: 0, b: 1, all: 1 },
+    Reach { a: 1, b: 1, all: 1 },
+    Reach { a: 1, b: 1, all: 2 },
+];
 
 // What a code and a ceiling both allow.
 fn reach_within(code: u8, ceiling: usize) -> Reach
     requires { code ≤ 5 }
     ensures { result ≡ both (code_reach code) (ceiling_reach ceiling) }
 {
-    let k = code as usize;
+    let most = MOST[code as usize];
     Reach {
-        a: least(MOST_A[k], ceiling),
-        b: least(MOST_B[k], ceiling),
-        all: least(MOST[k], ceiling),
+        a: most.a.min(ceiling),
+        b: most.b.min(ceiling),
+        all: most.all.min(ceiling),
     }
 }
 
 // ---- Choices of extras
 
-// Whether a choice fits, and the form of its tracks.
+// A choice: in each set no extra, or that track.
 #[derive(Clone, Copy)]
-pub struct Trial {
-    pub form: Form,
-    pub fits: bool,
+pub struct Extras {
+    pub a: Option<usize>,
+    pub b: Option<usize>,
 }
 
-// A choice that fits, where one was found: 0 for no extra, t + 1 for track t.
+// A choice that fits, and the form of its tracks.
 #[derive(Clone, Copy)]
 pub struct Hit {
     pub form: Form,
-    pub a: usize,
-    pub b: usize,
-    pub found: bool,
+    pub extras: Extras,
 }
 
-// The marks and that of an extra: 0 for none, t + 1 for track t of the set whose first track has number `first`.
-fn one_more(marks: [u8; 18], first: usize, e: usize) -> [u8; 18]
-    requires marks_len { length marks ≡ 18 }
-    requires e_bound { first + e ≤ 18 }
-    ensures { OneMore first e marks result }
+// That an extra is a track of its set (`IsTrack`, `IsChoice`) is asked where its mark or its cells are looked up: a choice is made before, of
+// numbers that the loops count.
+
+// The marks and that of an extra of set s.
+fn one_more(z: Sizes, marks: [bool; 18], s: TrackSet, e: Option<usize>) -> [bool; 18]
+    requires { IsTrack z s e }
+    ensures { OneMore (shape z) s e marks result }
 {
+    let Some(t) = e else { return marks };
     let mut wide = marks;
-    if 0 < e {
-        wide[first + (e - 1)] = 1;
-    }
+    wide[z.track_number(s, t)] = true;
     wide
 }
 
 // The marks with the extras of a choice.
-fn widen(z: Sizes, marks: [u8; 18], a: usize, b: usize) -> [u8; 18]
-    requires marks_len { length marks ≡ 18 }
-    requires choice { IsChoice z a b }
-    ensures { Widened (shape z) marks (choice_at a b) result }
+fn widen(z: Sizes, marks: [bool; 18], e: Extras) -> [bool; 18]
+    requires { IsChoice z e }
+    ensures { Widened (shape z) marks (choice_of e) result }
 {
-    one_more(one_more(marks, 0, a), z.t1 + 2, b)
+    one_more(z, one_more(z, marks, TrackSet::A, e.a), TrackSet::B, e.b)
 }
 
-// The extras that a number stands for: one, or none.
-fn size_of(e: usize) -> usize
-    ensures { result ≡ size (extra_at e) }
+// The number of extras, none or one.
+fn size_of(e: Option<usize>) -> usize
+    ensures { result ≡ size (extra_of e) }
 {
-    if e == 0 { 0 } else { 1 }
+    match e {
+        None => 0,
+        Some(_) => 1,
+    }
 }
 
 // Is an extra none, or a track without a mark?
-fn is_free(marks: [u8; 18], first: usize, e: usize) -> bool
-    requires { first + e ≤ 18 }
-    ensures { Free first e marks result }
+fn is_free(z: Sizes, marks: [bool; 18], s: TrackSet, e: Option<usize>) -> bool
+    requires { IsTrack z s e }
+    ensures { Free (shape z) s e marks result }
 {
-    if e == 0 {
-        return true;
+    match e {
+        None => true,
+        Some(t) => !marks[z.track_number(s, t)],
     }
-    marks[first + (e - 1)] != 1
+}
+
+// Does the reach leave room for the extras of a choice?
+fn has_room(w: Reach, e: Extras) -> bool
+    ensures { IsTrue result ↔ HasRoom w (choice_of e) }
+{
+    let in_a = size_of(e.a);
+    let in_b = size_of(e.b);
+    in_a <= w.a && in_b <= w.b && in_a + in_b <= w.all
 }
 
 // Does the reach allow a choice, and are its extras unflagged tracks?
-fn allows(z: Sizes, w: Reach, marks: [u8; 18], a: usize, b: usize) -> bool
-    requires { IsChoice z a b }
-    ensures { Allows (shape z) w (marked (shape z) marks) (choice_at a b) result }
+fn allows(z: Sizes, w: Reach, marks: [bool; 18], e: Extras) -> bool
+    requires { IsChoice z e }
+    ensures { Allows (shape z) w (marked (shape z) marks) (choice_of e) result }
 {
-    let in_a = size_of(a);
-    let in_b = size_of(b);
-    if w.a < in_a {
+    if !has_room(w, e) {
         return false;
     }
-    if w.b < in_b {
-        return false;
-    }
-    if w.all < in_a + in_b {
-        return false;
-    }
-    if !is_free(marks, 0, a) {
-        return false;
-    }
-    is_free(marks, z.t1 + 2, b)
+    is_free(z, marks, TrackSet::A, e.a) && is_free(z, marks, TrackSet::B, e.b)
 }
 
-// The last choice in A that a reach may allow: none, where it allows no extra there.
-fn last_a(z: Sizes, w: Reach) -> usize
-    requires { Small z }
-    ensures { LastA z w result }
+// The choices in set s that a reach may allow beside so many extras in the other set: none alone, where it allows no extra there, or
+// none and each track.
+fn choices_in(z: Sizes, w: Reach, s: TrackSet, beside: usize) -> usize
+    requires { beside ≤ 1 }
+    ensures { Last z w s beside result }
 {
-    if w.a == 0 {
-        return 0;
+    let most = match s {
+        TrackSet::A => w.a,
+        TrackSet::B => w.b,
+    };
+    if most == 0 || w.all <= beside {
+        1
+    } else {
+        1 + z.tracks(s)
     }
-    z.t1 + 2
-}
-
-// The last choice in B that a reach may allow beside a in A.
-fn last_b(z: Sizes, w: Reach, a: usize) -> usize
-    requires { Small z }
-    ensures { LastB z w a result }
-{
-    if w.b == 0 {
-        return 0;
-    }
-    if a != 0 {
-        if w.all < 2 {
-            return 0;
-        }
-    }
-    z.t2 + 2
 }
 
 // ---- What is named
 
 // The extra that is named: a track that was changed.
-fn named(image: &[u8], out: &[u8], l: usize, first: usize, e: usize) -> Extra
-    requires { HasExtra l first e image.now out.now }
-    ensures { extra_of result ≡ named_at l image.now out.now first e }
+fn named(z: Sizes, image: &[u8], out: &[u8], s: TrackSet, e: Option<usize>) -> Option<u32>
+    requires same { SameImages z image.now out.now }
+    requires track { IsTrack z s e }
+    ensures { extra_of result ≡ named_at (shape z) image.now out.now s e }
 {
-    if e == 0 {
-        return Extra::None;
+    let g = z.track_number(s, e?);
+    if changes::count_track(image, out, z.track_length(), g) == 0 {
+        return None;
     }
-    let g = first + (e - 1);
-    if changes::count_track(image, out, l, g) == 0 {
-        return Extra::None;
-    }
-    Extra::Track(g as u32)
+    Some(g as u32)
 }
 
-// The answer 0 with what was changed, where marked tracks alone were. The extras of a choice are named.
-fn answer_with(z: Sizes, marks: &[u8], image: &[u8], out: &[u8], a: usize, b: usize) -> Answer
+// What was changed, where marked tracks alone were. The extras of a choice are named.
+fn answer_with(z: Sizes, marks: &[bool], image: &[u8], out: &[u8], e: Extras) -> Answer
     requires only_marked { OnlyMarked z marks.now image.now out.now }
-    requires choice { IsChoice z a b }
-    ensures { result_of result ≡ mended_at (shape z) image.now out.now a b }
+    requires choice { IsChoice z e }
+    ensures { result_of (Ok result) ≡ mended_at (shape z) image.now out.now e }
 {
-    let l = z.positions + (z.t1 + z.t2 + 1);
-    let in_a = named(image, out, l, 0, a);
-    let in_b = named(image, out, l, z.t1 + 2, b);
-    repair::answer_of(z, marks, image, out, in_a, in_b)
+    let in_a = named(z, image, out, TrackSet::A, e.a);
+    let in_b = named(z, image, out, TrackSet::B, e.b);
+    changes::answer_of(z, marks, image, out, in_a, in_b)
 }
 
 // ---- Tracing
 
-// Does an extra explain the tails that were not 0?
-fn explains(need: usize, e: usize) -> bool
-    ensures { Explains need e result }
-{
-    if need == 0 {
-        return true;
-    }
-    need == e
+// What tracing works with: the reach, the marks and the marked tracks of each set, what the tails need, and where the sums begin.
+#[derive(Clone, Copy)]
+pub struct Tracer {
+    pub z: Sizes,
+    pub w: Reach,
+    pub marks: [bool; 18],
+    pub x: Three,
+    pub y: Three,
+    pub need: Needs,
+    pub start: usize,
 }
 
-// Tries one choice of extras.
-fn try_choice(
-    z: Sizes,
-    w: Reach,
-    marks: [u8; 18],
-    x: Three,
-    y: Three,
-    need: Needs,
-    rows: &[u64],
-    found: &mut [u64],
-    start: usize,
-    a: usize,
-    b: usize,
-    form: Form,
-) -> Trial
-    requires traceable { Traceable z w marks rows.now x y start }
-    requires fresh { Fresh found.old start }
-    requires choice { IsChoice z a b }
-    ensures { Tried z w (marked (shape z) marks) rows.now need a b start found.new result }
+// Tries one choice of extras: the form of its tracks, if it fits.
+fn try_choice(tracer: Tracer, rows: &[u64], found: &mut [u64], e: Extras) -> Option<Form>
+    requires traceable { Traceable tracer rows.now }
+    requires fresh { Fresh found.old tracer.start }
+    requires choice { IsChoice tracer.z e }
+    ensures { Tried tracer rows.now e found.new result }
 {
-    if !allows(z, w, marks, a, b) {
-        return Trial { fits: false, form };
+    let z = tracer.z;
+    if !allows(z, tracer.w, tracer.marks, e) {
+        return None;
     }
-    if !explains(need.a, a) {
-        return Trial { fits: false, form };
+    if !tracer.need.a.explained_by(e.a) || !tracer.need.b.explained_by(e.b) {
+        return None;
     }
-    if !explains(need.b, b) {
-        return Trial { fits: false, form };
+    let x = plans::insert(tracer.x, e.a);
+    let y = plans::insert(tracer.y, e.b);
+    let p = plans::form_of(z, x, y);
+    if !errors::find(rows, found, z, z.vertical_end(), p, tracer.start) {
+        return None;
     }
-    let end = syndrome::vertical_end(z);
-    let in_a = plans::insert(x, a);
-    let in_b = plans::insert(y, b);
-    let p = plans::form_of(z, in_a, in_b);
-    let fits = errors::find(rows, found, z, end, p, start);
-    Trial { fits, form: p }
+    Some(p)
 }
 
 // Tries the choices one after the other, up to one that fits.
-fn search(
-    z: Sizes,
-    w: Reach,
-    marks: [u8; 18],
-    x: Three,
-    y: Three,
-    need: Needs,
-    rows: &[u64],
-    found: &mut [u64],
-    start: usize,
-) -> Hit
-    requires traceable { Traceable z w marks rows.now x y start }
-    requires fresh { Fresh found.old start }
-    ensures { Searched z w (marked (shape z) marks) rows.now need found.new result }
+fn search(tracer: Tracer, rows: &[u64], found: &mut [u64]) -> Option<Hit>
+    requires traceable { Traceable tracer rows.now }
+    requires fresh { Fresh found.old tracer.start }
+    ensures { Searched tracer rows.now found.new result }
 {
-    let in_a = last_a(z, w);
-    let mut form = plans::form_of(z, x, y);
-    let mut fits = false;
-    let mut a = 0;
-    let mut b = 0;
-    'search: while a <= in_a {
-        b = 0;
-        let in_b = last_b(z, w, a);
-        while b <= in_b {
-            let tried = try_choice(z, w, marks, x, y, need, rows, found, start, a, b, form);
-            form = tried.form;
-            if tried.fits {
-                fits = true;
+    let mut hit = None;
+    let in_a = choices_in(tracer.z, tracer.w, TrackSet::A, 0);
+    'search: for i in 0..in_a {
+        let a = i.checked_sub(1);
+        let in_b = choices_in(tracer.z, tracer.w, TrackSet::B, size_of(a));
+        for j in 0..in_b {
+            let b = j.checked_sub(1);
+            let extras = Extras { a, b };
+            if let Some(form) = try_choice(tracer, rows, found, extras) {
+                hit = Some(Hit { form, extras });
                 break 'search;
             }
-            b += 1;
         }
-        a += 1;
     }
-    Hit {
-        found: fits,
-        a,
-        b,
-        form,
-    }
+    hit
 }
 
 // Traces into the output, of the image's size.
-fn trace_record(z: Sizes, w: Reach, marks: [u8; 18], image: &[u8], out: &mut [u8]) -> Answer
-    requires given { Given z marks image.now out.old }
+fn trace_record(
+    z: Sizes,
+    w: Reach,
+    marks: [bool; 18],
+    image: &[u8],
+    out: &mut [u8],
+) -> Result<Answer, Refusal>
+    requires given { Given (shape z) marks image.now out.old }
     requires stays_within { StaysWithin (shape z) w (marked (shape z) marks) }
     ensures { Traces (shape z) w (marked (shape z) marks) image.now out.old (result_of result) out.new }
 {
-    let l = z.positions + (z.t1 + z.t2 + 1);
     let mut rows = [0u64; 137];
     let mut found = [0u64; 171];
     let need = repair::prepare(z, &marks, image, out, &mut rows);
-    let x = plans::find_three(&marks, z, 0);
-    let y = plans::find_three(&marks, z, 1);
-    let start = mend::find_start(&rows, l);
-    let hit = search(z, w, marks, x, y, need, &rows, &mut found, start);
-    if !hit.found {
+    let x = plans::find_three(&marks, z, TrackSet::A);
+    let y = plans::find_three(&marks, z, TrackSet::B);
+    let start = mend::find_start(&rows, z.track_length());
+    let tracer = Tracer {
+        z,
+        w,
+        marks,
+        x,
+        y,
+        need,
+        start,
+    };
+    let Some(hit) = search(tracer, &rows, &mut found) else {
         repair::put_back(image, out);
-        return plain_answer(7, 0);
-    }
-    let form = hit.form;
-    mend::add_errors(out, z, form, &found);
-    let wide = widen(z, marks, hit.a, hit.b);
-    answer_with(z, &wide, image, out, hit.a, hit.b)
+        return Err(Refusal::NoRecord);
+    };
+    mend::add_errors(out, z, hit.form, &found);
+    let wide = widen(z, marks, hit.extras);
+    Ok(answer_with(z, &wide, image, out, hit.extras))
 }
 
 // ---- The calls
 
 // Tracer with a ceiling: the same as the repairer with extra tracks that are not flagged, as many as the code of the flags and the
 // ceiling both allow.
-pub fn trace_within(blocks: u32, flags: u32, ceiling: u32, image: &[u8], out: &mut [u8]) -> Answer
+pub fn trace_within(
+    blocks: u32,
+    flags: u32,
+    ceiling: u32,
+    image: &[u8],
+    out: &mut [u8],
+) -> Result<Answer, Refusal>
     ensures { TracedWithin blocks flags ceiling image.now out.old (result_of result) out.new }
 {
-    let seen = repair::check(blocks, flags, image, out.len());
-    let refused = seen.answer;
-    let number = refused.number;
-    let detail = refused.detail;
-    if number != 0 {
-        return plain_answer(number, detail);
-    }
+    let lost = repair::check(blocks, flags, image, out.len())?;
     let n = blocks as usize;
-    let z = Sizes {
-        t1: 7,
-        t2: 7,
-        positions: 8 * n,
-        closed: true,
-    };
-    let marks = flags::call_marks(z, flags, image, seen.lost);
+    let z = Sizes::of_blocks(n);
+    let marks = flags::call_marks(z, flags, image, lost);
     let code = flags::code_of(z, &marks);
     if 2 < ceiling {
-        return plain_answer(12, 0);
+        return Err(Refusal::Ceiling);
     }
     if code == 0 {
-        return plain_answer(6, 0);
+        return Err(Refusal::TooMany);
     }
     let w = reach_within(code, ceiling as usize);
     trace_record(z, w, marks, image, &mut out[..18 * (8 * n + 15)])
 }
 
 // Tracer: with code 4 in place of 5, which is one extra track in all at the most.
-pub fn trace(blocks: u32, flags: u32, image: &[u8], out: &mut [u8]) -> Answer
+pub fn trace(blocks: u32, flags: u32, image: &[u8], out: &mut [u8]) -> Result<Answer, Refusal>
     ensures { Traced blocks flags image.now out.old (result_of result) out.new }
 {
     trace_within(blocks, flags, 1, image, out)

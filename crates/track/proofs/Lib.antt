@@ -1,5 +1,5 @@
 pub mod Cells
-pub mod Long
+pub mod Differing
 pub mod Lost
 pub mod Parts
 pub mod Rows

@@ -6,7 +6,8 @@ use Prim.Native.Nat.{ℕ, zero, suc, ◌-◌, ◌<◌}
 use native.Mathlib.Omega.{arith}
 use borrow.Author.Tests.{eqb-true}
 use lib.ListN.{length, get_or}
-use Rattle.code.specs.Record.{TrackSet, Shape, tracks, track_length, Cells}
+use Rattle.code.specs.Record.{Shape, tracks, track_length, Cells}
+use Rattle.code.specs.declared.sizes.TrackSet.{TrackSet}
 use Rattle.code.specs.Image.{cells}
 use Rattle.code.specs.Lost.{read_values, is_lost}
 use Rattle.code.specs.Reach.{pick}

@@ -43,12 +43,6 @@ pub record Copied (source before after : List ℕ) : Type 0 where
   pub copy : (i : ℕ) → i < length source → get_or after i 0 ≡ get_or source i 0
   pub later : (i : ℕ) → length source ≤ i → get_or after i 0 ≡ get_or before i 0
 
--- r is the larger of x and y.
-pub record Larger (x y r : ℕ) : Type 0 where
-  pub first : x ≤ r
-  pub second : y ≤ r
-  pub least : (b : ℕ) → x ≤ b → y ≤ b → r ≤ b
-
 -- r is the highest byte of a list, 0 of an empty one.
 pub record Highest (xs : List ℕ) (r : ℕ) : Type 0 where
   pub above : (i : ℕ) → get_or xs i 0 ≤ r
@@ -64,11 +58,6 @@ pub record HighestTwo (xs ys : List ℕ) (r : ℕ) : Type 0 where
 pub record Zeros (xs : List ℕ) (r : Bool) : Type 0 where
   pub all : r ≡ true → (i : ℕ) → get_or xs i 0 ≡ 0
   pub not_all : r ≡ false → ((i : ℕ) → i < length xs → get_or xs i 0 ≡ 0) → ⊥
-
--- r says whether the eight cells from `at` on are 0.
-pub record EightZeros (xs : List ℕ) (at : ℕ) (r : Bool) : Type 0 where
-  pub all : r ≡ true → (k : ℕ) → k < 8 → get_or xs (at + k) 0 ≡ 0
-  pub not_all : r ≡ false → ((k : ℕ) → k < 8 → get_or xs (at + k) 0 ≡ 0) → ⊥
 
 -- The number of places at which two stretches differ.
 unfoldable pub differing : List ℕ → List ℕ → ℕ

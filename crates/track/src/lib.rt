@@ -1,7 +1,7 @@
 // Functions on one track's stretch of an image.
 #![tactic(auto)]
 
-ghost use Rattle.std.specs.Prelude.{◌≡◌, ℕ, suc, ◌+◌, ◌*◌, ◌-◌, ◌/◌, ◌%◌, ◌^◌, ◌<◌, ◌≤◌, length, get_or};
+ghost use Rattle.std.specs.Prelude.{◌≡◌, ℕ, suc, ◌+◌, ◌*◌, ◌-◌, ◌/◌, ◌%◌, ◌^◌, ◌<◌, ◌≤◌, length, get_or, MatchOption};
 ghost use Rattle.code.specs.Lost.{read_values};
 ghost use Rattle.code.specs.Calls.{differ};
 ghost use Rattle.code.specs.Numbers.{first_bad};
@@ -15,11 +15,9 @@ ghost use Rattle.track.specs.Track.{
   Added,
   Cleared,
   Copied,
-  Larger,
   Highest,
   HighestTwo,
   Zeros,
-  EightZeros,
   differing,
   Unpacked,
 };
@@ -34,57 +32,24 @@ pub fn add_track(acc: &mut [u8], track: &[u8], off: usize)
     requires bits_2 { Bits track.now }
     ensures { Added acc.old track.now off acc.new }
 {
-    let n = acc.len() - off;
-    let mut k = 0;
-    while k < n {
-        acc[k + off] = acc[k + off] ^ track[k];
-        k += 1;
+    for k in 0..acc.len() - off {
+        acc[k + off] ^= track[k];
     }
 }
 
-// Makes every cell 0.
+// Makes every cell 0: the library's `fill`, with what it leaves said cell by cell.
 pub fn clear(acc: &mut [u8])
     ensures { Cleared acc.old acc.new }
 {
-    let n = acc.len();
-    let mut i = 0;
-    while i < n {
-        acc[i] = 0;
-        i += 1;
-    }
+    acc.fill(0);
 }
 
-// Copies a stretch to the start of another.
+// Copies a stretch to the start of another. It compiles to a move of memory.
 pub fn copy_into(out: &mut [u8], source: &[u8])
     requires { length source.now ≤ length out.old }
     ensures { Copied source.now out.old out.new }
 {
-    let n = source.len();
-    let mut i = 0;
-    while i < n {
-        out[i] = source[i];
-        i += 1;
-    }
-}
-
-// The same for a long stretch, by way of a room of its own: between a lent stretch and a room a copy compiles to a move of memory, which
-// it does not between two lent ones.
-pub fn copy_long(out: &mut [u8], source: &[u8])
-    requires { length source.now ≤ length out.old }
-    ensures { Copied source.now out.old out.new }
-{
-    let l = source.len();
-    let mut room = [0u8; 4096];
-    let mut at = 0;
-    while 4096 < l - at {
-        let end = at + 4096;
-        copy_into(&mut room, &source[at..end]);
-        copy_into(&mut out[at..end], &room);
-        at = end;
-    }
-    let rest = l - at;
-    copy_into(&mut room[..rest], &source[at..]);
-    copy_into(&mut out[at..l], &room[..rest]);
+    out[..source.len()].copy_from_slice(source);
 }
 
 // A cell, and 0 where it is lost.
@@ -92,11 +57,9 @@ fn known_cell(x: u8) -> u8
     requires { x < read_values }
     ensures { result ≡ known_cell x }
 {
-    let reading = code::read_cell(x);
-    match reading {
-        Reading::Zero => 0,
+    match code::read_cell(x) {
         Reading::One => 1,
-        Reading::Lost => 0,
+        Reading::Zero | Reading::Lost => 0,
     }
 }
 
@@ -106,36 +69,9 @@ pub fn copy_known(out: &mut [u8], source: &[u8])
     requires readings { Readings source.now }
     ensures { Copied (known source.now) out.old out.new }
 {
-    let l = source.len();
-    let mut i = 0;
-    while i < l {
+    for i in 0..source.len() {
         out[i] = known_cell(source[i]);
-        i += 1;
     }
-}
-
-// The larger of two bytes.
-fn larger(x: u8, y: u8) -> u8
-    ensures { Larger x y result }
-{
-    if x < y { y } else { x }
-}
-
-// The highest byte of a few, or 0.
-fn highest_few(s: &[u8]) -> u8
-    ensures { Highest s.now result }
-{
-    let n = s.len();
-    let mut most: u8 = 0;
-    let mut i = 0;
-    while i < n {
-        let x = s[i];
-        if most < x {
-            most = x;
-        }
-        i += 1;
-    }
-    most
 }
 
 // The highest byte of two stretches of the same length, or 0. The loop has two bytes a step, and compiles to twice the vectors.
@@ -143,65 +79,49 @@ fn highest_two(s: &[u8], t: &[u8]) -> u8
     requires { length t.now ≡ length s.now }
     ensures { HighestTwo s.now t.now result }
 {
-    let n = s.len();
     let mut a: u8 = 0;
     let mut b: u8 = 0;
-    let mut i = 0;
-    while i < n {
-        a = larger(a, s[i]);
-        b = larger(b, t[i]);
-        i += 1;
+    for i in 0..s.len() {
+        a = a.max(s[i]);
+        b = b.max(t[i]);
     }
-    larger(a, b)
+    a.max(b)
 }
 
-// The highest byte, or 0. Of a long stretch it is that of two parts, the first cells and the last ones, which may overlap: as many
-// cells of each as make whole steps of the compiled loop.
+// The highest byte, or 0. Of 32 cells or more it is that of two parts, the first cells and the last ones, which may overlap: as many
+// cells of each as make whole steps of the compiled loop. One `max` over all takes a quarter to a third more (2,063 cells: 41 ns, 33 so).
 pub fn highest(s: &[u8]) -> u8
     ensures { Highest s.now result }
 {
     let n = s.len();
     if n < 32 {
-        return highest_few(s);
+        return s.iter().copied().max().unwrap_or(0);
     }
     let h = 32 * ((n + 63) / 64);
     let from = n - h;
     highest_two(&s[..h], &s[from..])
 }
 
-// Are the eight cells from `at` on 0? They are tested at once.
-fn eight_zero(s: &[u8], at: usize) -> bool
+// The number whose eight bytes are the cells from `at` on, the least significant first. It compiles to one load.
+pub fn eight_at(s: &[u8], at: usize) -> u64
     requires { at + 8 ≤ length s.now }
-    ensures { EightZeros s.now at result }
+    ensures { (k : ℕ) → k < 8 → result / 256 ^ k % 256 ≡ get_or s.now (at + k) 0 }
 {
-    let x = s[at] as u64
-        + 0x100 * (s[at + 1] as u64)
-        + 0x1_0000 * (s[at + 2] as u64)
-        + 0x100_0000 * (s[at + 3] as u64)
-        + 0x1_0000_0000 * (s[at + 4] as u64)
-        + 0x100_0000_0000 * (s[at + 5] as u64)
-        + 0x1_0000_0000_0000 * (s[at + 6] as u64)
-        + 0x100_0000_0000_0000 * (s[at + 7] as u64);
-    x == 0
+    u64::from_le_bytes([
+        s[at],
+        s[at + 1],
+        s[at + 2],
+        s[at + 3],
+        s[at + 4],
+        s[at + 5],
+        s[at + 6],
+        s[at + 7],
+    ])
 }
 
-// Are the cells of a stretch of eight or more 0? They are tested by eights, of which the last may overlap the one before.
-fn eights_zero(s: &[u8]) -> bool
-    requires { 8 ≤ length s.now }
-    ensures { Zeros s.now result }
-{
-    let n = s.len();
-    let mut i = 8;
-    while i < n {
-        if !eight_zero(s, i - 8) {
-            return false;
-        }
-        i += 8;
-    }
-    eight_zero(s, n - 8)
-}
-
-// Is every cell 0? Few cells are tested by eights, many by the highest byte, which is faster for them.
+// Is every cell 0? From 8 to 64 cells are tested by eights, of which the last may overlap the one before, and others by the highest byte.
+// `s.iter().all(|x| *x == 0)` tests a cell at a time (15 cells: 9 ns, 4 so; 2,063 cells: 1,050 ns, 33 so). The two tests of the length
+// stand apart, so that the way of a long stretch has no third.
 pub fn all_zero(s: &[u8]) -> bool
     ensures { Zeros s.now result }
 {
@@ -212,66 +132,62 @@ pub fn all_zero(s: &[u8]) -> bool
     if 64 < n {
         return highest(s) == 0;
     }
-    eights_zero(s)
-}
-
-// The index of the first cell that has none of the values below `values`, and the length where there is none. The highest byte says
-// whether there is one.
-pub fn first_bad_cell(s: &[u8], most: u8, values: u8) -> usize
-    requires { Highest s.now most }
-    ensures { result ≡ first_bad values s.now }
-{
-    let n = s.len();
-    if most < values {
-        return n;
-    }
-    let mut i = 0;
-    while i < n {
-        if values <= s[i] {
-            return i;
+    for i in 0..n / 8 {
+        if eight_at(s, 8 * i) != 0 {
+            return false;
         }
-        i += 1;
     }
-    n
+    eight_at(s, n - 8) == 0
 }
 
-// The number of places from `from` to before `to` at which two stretches differ: few enough that a byte holds it.
-fn count_few(a: &[u8], b: &[u8], from: usize, to: usize) -> u8
+// The index of the first cell that has none of the values below `values`, if there is one. The highest byte says whether there is.
+pub fn first_bad_cell(s: &[u8], most: u8, values: u8) -> Option<usize>
+    requires { Highest s.now most }
+    ensures { MatchOption result (first_bad values s.now ≡ length s.now) (λ i. (i ≡ first_bad values s.now) × (i < length s.now)) }
+{
+    if most < values {
+        return None;
+    }
+    s.iter().position(|x| values <= *x)
+}
+
+// The number of places at which two stretches of one length differ: few enough that a byte holds it.
+fn count_few(a: &[u8], b: &[u8]) -> u8
+    requires a_len_bound { length a.now ≤ 255 }
     requires b_len { length b.now ≡ length a.now }
-    requires to_in_bounds { to ≤ length a.now }
-    requires from_le_to { from ≤ to }
-    requires to_bound { to ≤ from + 255 }
-    ensures from_bound { result + from ≤ to }
-    ensures m_value { result + sum from (λ (m : ℕ). differ (get_or a.now m 0) (get_or b.now m 0))
-        ≡ sum to (λ (m : ℕ). differ (get_or a.now m 0) (get_or b.now m 0)) }
+    ensures { result ≡ differing a.now b.now }
 {
     let mut count: u8 = 0;
-    let mut i = from;
-    while i < to {
+    for i in 0..a.len() {
         if a[i] != b[i] {
             count += 1;
         }
-        i += 1;
     }
     count
 }
 
-// The number of places at which two stretches of one length differ. A block at a time is counted in a byte, which is faster.
+// The number of places at which two stretches of one length differ. A block at a time is counted in a byte, which compiles to vectors;
+// `zip(b).filter(..).count()` counts a place at a time (2,063 cells: 1,340 ns, 66 so).
 pub fn count_differing(a: &[u8], b: &[u8]) -> usize
     requires { length b.now ≡ length a.now }
     ensures { result ≡ differing a.now b.now }
 {
-    let n = a.len();
-    let mut count: usize = 0;
-    let mut i = 0;
-    while 224 <= n - i {
-        count += count_few(a, b, i, i + 224) as usize;
-        i += 224;
+    if a.len() < 224 {
+        return count_few(a, b) as usize;
     }
-    count + count_few(a, b, i, n) as usize
+    let blocks = a.len() / 224;
+    let mut count: usize = 0;
+    for k in 0..blocks {
+        let from = 224 * k;
+        let to = from + 224;
+        count += count_few(&a[from..to], &b[from..to]) as usize;
+    }
+    let from = 224 * blocks;
+    count + count_few(&a[from..], &b[from..]) as usize
 }
 
-// The number whose four bytes are a, b, c and d, the least significant first. It compiles to one load.
+// The number whose four bytes are a, b, c and d, the least significant first. It compiles to one load. With `u32::from_le_bytes` in its
+// place a loop of 16 to 27 bytes is packed without vectors (17 bytes: 16 ns, 13 so), and with eight cells in one product any (257: 220, 130).
 fn four(a: u8, b: u8, c: u8, d: u8) -> u64
     requires a_bound { a < 2 }
     requires b_bound { b < 2 }
@@ -310,14 +226,10 @@ pub fn put(track: &mut [u8], at: usize, x: u64)
     ensures early { (i : ℕ) → i < at → get_or track.new i 0 ≡ get_or track.old i 0 }
     ensures later { (i : ℕ) → at + 8 ≤ i → get_or track.new i 0 ≡ get_or track.old i 0 }
 {
-    track[at] = (x % 0x100) as u8;
-    track[at + 1] = (x / 0x100 % 0x100) as u8;
-    track[at + 2] = (x / 0x1_0000 % 0x100) as u8;
-    track[at + 3] = (x / 0x100_0000 % 0x100) as u8;
-    track[at + 4] = (x / 0x1_0000_0000 % 0x100) as u8;
-    track[at + 5] = (x / 0x100_0000_0000 % 0x100) as u8;
-    track[at + 6] = (x / 0x1_0000_0000_0000 % 0x100) as u8;
-    track[at + 7] = (x / 0x100_0000_0000_0000 % 0x100) as u8;
+    let bytes = x.to_le_bytes();
+    for k in 0..8 {
+        track[at + k] = bytes[k];
+    }
 }
 
 // Writes a byte's bits to the eight cells from `at` on, the most significant first.

@@ -7,15 +7,10 @@ ghost use Rattle.code.specs.Promises.{Viewed};
 pub fn view(blocks: u32, image: &[u8], g: u32) -> &[u8]
     ensures { Viewed blocks image.now g result.now }
 {
-    let n = blocks as usize;
-    let l = 8 * n + 15;
+    let l = 8 * blocks as usize + 15;
     let track = g as usize;
-    let first = checks::check_input(blocks, image.len(), 18 * l);
-    if first.number != 0 {
-        return &image[0..0];
-    }
-    if 18 <= track {
-        return &image[0..0];
+    if checks::check_input(blocks, image.len(), 18 * l).is_err() || 18 <= track {
+        return &image[..0];
     }
     let start = track * l;
     let end = start + l;

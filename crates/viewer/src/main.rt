@@ -6,44 +6,30 @@
 
 use std::io;
 
-fn number(rt: &impl Print, n: u64) -> io::Result<()> {
-    print!(rt; "{n} ")
-}
-
 // Asks for one track.
 fn ask(rt: &impl Print, blocks: u32, image: &[u8], g: u32) -> io::Result<()> {
-    number(rt, blocks as u64)?;
-    number(rt, image.len() as u64)?;
-    number(rt, g as u64)?;
+    print!(rt; "{blocks} {} {g} ", image.len())?;
     rt.write_all(view::view(blocks, image, g))?;
     println!(rt)
 }
 
 // Asks for every track, and for the one past them.
 fn ask_all(rt: &impl Print, blocks: u32, image: &[u8]) -> io::Result<()> {
-    let mut g = 0;
-    while g < 19 {
+    for g in 0..19 {
         ask(rt, blocks, image, g)?;
-        g += 1;
     }
     Ok(())
 }
 
 fn fill(image: &mut [u8]) {
-    let n = image.len();
-    let mut i = 0;
-    while i < n {
-        image[i] = (48 + i % 64) as u8;
-        i += 1;
+    for (i, cell) in image.iter_mut().enumerate() {
+        *cell = b'0' + (i % 64) as u8;
     }
 }
 
 // The first n cells.
 fn first(image: &[u8], n: usize) -> &[u8] {
-    if image.len() < n {
-        return image;
-    }
-    &image[0..n]
+    &image[..n.min(image.len())]
 }
 
 fn run(rt: &impl Print, image: &[u8]) -> io::Result<()> {
@@ -69,10 +55,8 @@ fn run(rt: &impl Print, image: &[u8]) -> io::Result<()> {
 
 // Asks for one entry.
 fn ask_entry(rt: &impl Print, file: &[u8], index: u32) -> io::Result<()> {
-    number(rt, file.len() as u64)?;
-    number(rt, index as u64)?;
     let part = files::entry(file, index);
-    number(rt, part.len() as u64)?;
+    print!(rt; "{} {index} {} ", file.len(), part.len())?;
     rt.write_all(part)?;
     println!(rt)
 }

@@ -1,13 +1,9 @@
--- Laws of the bits of a word.
-use mathlib.Core.Path.{◌≡◌, refl, sym, ap, ◌∙◌}
-use mathlib.Core.Bool.{false, ◌||◌}
-use Prim.Native.Nat.{ℕ, zero, suc, ◌+◌, ◌*◌, ◌/◌, ◌%◌, ◌^◌, ◌<◌}
+-- Laws of the bits of a word, and of the words of a list joined.
+use Rattle.std.proofs.Common.{◌≡◌, Bool, true, false, ◌||◌, true≢false, List, [], ◌∷◌, ℕ, zero, suc, ◌+◌, ◌*◌, ◌/◌, ◌%◌, ◌^◌, ◌<◌, refl, sym, ap, ◌∙◌, eqb, bit_or, fold, get_or, arith}
 use native.Mathlib.Decide.{ℕ_discrete}
 use native.Mathlib.Nat.{one-mul, pow-suc, zero-div}
-use native.Mathlib.Omega.{arith}
 use borrow.Author.Tests.{eq-eqb, ne_eqb}
-use lib.Bits.{bit_or, or_shr, or_mod}
-use lib.Dec.{eqb}
+use lib.Bits.{or_shr, or_mod}
 use lib.Pow.{shl_exact, shr-shr}
 use Rattle.flags.specs.Words.{bit_at}
 
@@ -54,3 +50,24 @@ one_bit (suc g) (suc h) = ap (λ (v : ℕ). eqb (v % 2) 1) (half (2 ^ suc g) h �
 -- A 1 shifted by g is bit g of a word of 32 bits.
 pub one_shifted : (g : ℕ) → g < 32 → 1 * 2 ^ g % 2 ^ 32 ≡ 2 ^ g
 one_shifted g h = shl_exact 1 g 32 (omega arith) (omega arith) ∙ one-mul (2 ^ g)
+
+-- A joined word has the bits of both.
+or_left : (x y g : ℕ) → bit_at x g ≡ true → bit_at (bit_or x y) g ≡ true
+or_left x y g e = or_bit x y g ∙ ap (λ (b : Bool). b || bit_at y g) e
+
+or_right : (x y g : ℕ) → bit_at y g ≡ true → bit_at (bit_or x y) g ≡ true
+or_right x y g e = or_bit x y g ∙ ap (λ (b : Bool). bit_at x g || b) e ∙ or_on (bit_at x g)
+  where
+    or_on : (a : Bool) → a || true ≡ true
+    or_on true = refl
+    or_on false = refl
+
+-- All words joined have the bits of the one that they begin with, and of each.
+first_gathered : (g first : ℕ) (words : List ℕ) → bit_at first g ≡ true → bit_at (fold bit_or first words) g ≡ true
+first_gathered g first [] e = e
+first_gathered g first (word ∷ words) e = first_gathered g (bit_or first word) words (or_left first word g e)
+
+pub gathered : (g first : ℕ) (words : List ℕ) (m : ℕ) → bit_at (get_or words m 0) g ≡ true → bit_at (fold bit_or first words) g ≡ true
+gathered g first [] m e = absurd (true≢false (sym e ∙ no_bit g))
+gathered g first (word ∷ words) zero e = first_gathered g (bit_or first word) words (or_right first word g e)
+gathered g first (word ∷ words) (suc m) e = gathered g (bit_or first word) words m e

@@ -6,7 +6,9 @@ use mathlib.Core.List.{List}
 use Prim.Native.Nat.{ℕ}
 use native.Mathlib.Omega.{arith}
 use lib.ListN.{length}
-use Rattle.code.specs.Record.{TrackSet, A, B, Shape, tracks, track_length}
+use Rattle.code.specs.declared.sizes.TrackSet.{TrackSet}
+use Rattle.code.specs.declared.sizes.TrackSet.TheVariants.{A, B}
+use Rattle.code.specs.Record.{Shape, tracks, track_length}
 use Rattle.code.specs.Image.{track_number}
 use Rattle.code.specs.Flags.{bit, word_flags, flag_count, in_window}
 use Rattle.code.specs.Reach.{look_up, reach_code, flags_code}

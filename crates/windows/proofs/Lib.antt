@@ -1,6 +1,5 @@
 pub mod Bits
 pub mod Coding
-pub mod Gathering
 pub mod LostCells
 pub mod Stretches
 pub mod Tables

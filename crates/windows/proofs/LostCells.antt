@@ -1,21 +1,19 @@
 -- Lost cells that are flagged: of one track, and track after track.
 use mathlib.Core.Path.{◌≡◌, refl, sym, ap, ◌∙◌}
-use mathlib.Core.Logic.{◌≢◌, by_cases}
+use mathlib.Core.Logic.{◌≢◌}
 use mathlib.Core.Bool.{Bool, true, false, ◌||◌}
 use mathlib.Core.List.{List}
 use Prim.Native.Nat.{ℕ, ◌+◌, ◌*◌, ◌^◌, ◌<◌, ◌≤◌}
-use native.Mathlib.Decide.{ℕ_discrete}
 use native.Mathlib.Omega.{arith}
 use borrow.Author.Tests.{eq-eqb, ne_eqb}
 use lib.Bits.{or_zero_r}
 use lib.ListN.{length, get_or}
 use Rattle.code.specs.Record.{Shape, track_length}
-use Rattle.code.specs.Image.{track_number, all_tracks}
+use Rattle.code.specs.Image.{track_number}
 use Rattle.code.specs.Lost.{is_lost}
 use Rattle.code.specs.Reach.{pick}
 use Rattle.code.proofs.Lost.{bit_known}
 use Rattle.code.proofs.Patterns.{none_flagged}
-use Rattle.code.proofs.Places.{number_lt}
 use Rattle.track.specs.Track.{Readings, Highest}
 use Rattle.track.proofs.Lost.{most_lost}
 use Rattle.track.proofs.Rows.{part, part_length, part_row}
@@ -68,27 +66,9 @@ pub record LostFlagging (l : ℕ) (image before : List ℕ) (n : ℕ) (after : L
   pub done : (h m : ℕ) → h < n → m < l → bit_at (get_or after m 0) h ≡ bit_at (get_or before m 0) h || is_lost (get_or image (h * l + m) 0)
   pub later : (h m : ℕ) → n ≤ h → m < l → bit_at (get_or after m 0) h ≡ bit_at (get_or before m 0) h
 
-pub lost_none : (l : ℕ) (image before : List ℕ) → LostFlagging l image before 0 before
-lost_none l image before = record { size = refl; done = λ h m i. absurd (omega arith); later = λ h m i j. refl }
-
-pub lost_more : (l : ℕ) (image before : List ℕ) (n : ℕ) (mid after : List ℕ) → LostFlagging l image before n mid → LostAdded l image n mid after → LostFlagging l image before (n + 1) after
-lost_more l image before n mid after f a = record {
-  size = a.size ∙ f.size;
-  done = λ h m i j. by_cases (ℕ_discrete h n)
-      (λ e. rw e (a.here m j ∙ ap (λ (b : Bool). b || is_lost (get_or image (n * l + m) 0)) (f.later n m (omega arith) j)))
-      (λ d. a.there h m d j ∙ f.done h m (omega arith) j);
-  later = λ h m i j. a.there h m (omega arith) j ∙ f.later h m (omega arith) j;
-}
-
 -- ## An image
 
 module _ (sh : Shape) (image before : List ℕ) (size_is : length before ≡ track_length sh) where
-  pub lost_flagged : (n : ℕ) → n ≡ all_tracks sh → (after : List ℕ) → LostFlagging (track_length sh) image before n after → LostFlagged sh image before after
-  lost_flagged n e after f = record {
-    size = f.size ∙ size_is;
-    flags = λ s t m h i. f.done (track_number sh s t) m (omega (arith, number_lt sh s t h)) i;
-  }
-
   -- Where no cell is lost there is nothing to flag.
   pub none_lost : ((i : ℕ) → get_or image i 0 < 2) → LostFlagged sh image before before
   none_lost known = record {

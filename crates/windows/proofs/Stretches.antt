@@ -17,7 +17,7 @@ use Rattle.track.proofs.Parts.{part_at, put_before, put_in, put_after}
 use Rattle.track.proofs.Rows.{row_end}
 use Rattle.flags.specs.Words.{bit_at}
 use Rattle.windows.specs.Steps.{in_stretch, RunFlagged, StretchFlagged}
-use Rattle.code.proofs.Any.{or_assoc, or_off}
+use Rattle.code.proofs.Any.{or_off}
 use Rattle.windows.proofs.Bits.{or_bit, one_bit}
 
 -- ## Cells before, in and after a stretch
@@ -108,33 +108,3 @@ module _ (l q start k : ℕ) (fits : start + k ≤ l) (before : List ℕ) (size_
     size = same_len_mid start (start + k - start) before run f.size;
     flags = flags_at;
   })
-
--- ## One stretch after the other
-
--- A stretch without a cell flags none.
-pub stretch_none : (l : ℕ) (words : List ℕ) (at : ℕ) → StretchFlagged l words at at words
-stretch_none l words at = record {
-  size = refl;
-  flags = λ g m h. sym (ap (λ (b : Bool). bit_at (get_or words m 0) g || b) (nowhere (g * l + m)) ∙ or_off _);
-}
-  where
-    nowhere : (i : ℕ) → in_stretch at at i ≡ false
-    nowhere i = by_cases (dec_lt i at) (early at at i) (λ d. late at at i (omega arith))
-
--- Two stretches of which one begins where the other ends.
-pub stretch_more : (l : ℕ) (before mid after : List ℕ) (a b c : ℕ) → a ≤ b → b ≤ c → StretchFlagged l before a b mid → StretchFlagged l mid b c after → StretchFlagged l before a c after
-stretch_more l before mid after a b c p q f s = record {
-  size = s.size ∙ f.size;
-  flags = λ g m h.
-      s.flags g m h ∙ ap (λ (x : Bool). x || in_stretch b c (g * l + m)) (f.flags g m h)
-      ∙ or_assoc (bit_at (get_or before m 0) g) _ _ ∙ ap (λ (x : Bool). bit_at (get_or before m 0) g || x) (both (g * l + m));
-}
-  where
-    both : (i : ℕ) → in_stretch a b i || in_stretch b c i ≡ in_stretch a c i
-    both i = by_cases (dec_lt i a)
-        (λ h. rw (early a b i h, early b c i (omega arith), early a c i h))
-        (λ h. by_cases (dec_lt i b)
-        (λ k. rw (inside a b i (omega arith) k, inside a c i (omega arith) (omega arith)))
-        (λ k. by_cases (dec_lt i c)
-        (λ n. rw (late a b i (omega arith), inside b c i (omega arith) n, inside a c i (omega arith) n))
-        (λ n. rw (late a b i (omega arith), late b c i (omega arith), late a c i (omega arith)))))

@@ -64,9 +64,3 @@ pub record WordWithout (sh : Shape) (near : List ℕ) : Type 0 where
 pub record AllCoded (sh : Shape) (near : List ℕ) (r : Bool) : Type 0 where
   pub coded : r ≡ true → (m : ℕ) → m < length near → flags_code sh (word_flags sh (get_or near m 0)) ≢ 0
   pub without : r ≡ false → WordWithout sh near
-
--- ## All words
-
--- `all` has every bit of the words.
-pub record Gathered (words : List ℕ) (all : ℕ) : Type 0 where
-  pub bits : (g m : ℕ) → bit_at (get_or words m 0) g ≡ true → bit_at all g ≡ true

@@ -1,6 +1,7 @@
--- What is said of a table of pairs given as numbers, and of the words that it flags.
-use Rattle.std.specs.Prelude.{◌≡◌, Bool, true, false, ◌||◌, List, [], ℕ, ◌<◌, length, get_or}
-use Rattle.code.specs.Record.{TrackSet, Shape, tracks, track_length}
+-- What is said of a table of pairs, and of the words that it flags.
+use Rattle.std.specs.Prelude.{◌≡◌, Bool, true, false, ◌||◌, List, ℕ, ◌<◌, length, get_or}
+use Rattle.code.specs.declared.sizes.TrackSet.{TrackSet}
+use Rattle.code.specs.Record.{Shape, tracks, track_length}
 use Rattle.code.specs.Image.{cells}
 use Rattle.code.specs.Flags.{in_window}
 use Rattle.code.specs.Lost.{lost_cells}
@@ -9,10 +10,6 @@ use Rattle.code.specs.Spans.{Table, in_table, Broken, window}
 use Rattle.flags.specs.Words.{bit_at, word_cells, Windows}
 
 -- ## The table
-
--- A table of pairs of numbers, offset and length.
-abbrev pub pairs_table : List (List ℕ) → Table
-pairs_table pairs = record { count = length pairs; offset = λ k. get_or (get_or pairs k []) 0 0; size = λ k. get_or (get_or pairs k []) 1 0 }
 
 -- r says whether a table is right.
 pub record TableTested (cells : ℕ) (table : Table) (r : Bool) : Type 0 where
@@ -50,6 +47,6 @@ pub record WindowsFound (sh : Shape) (words near : List ℕ) (r : Bool) : Type 0
   pub no_code : r ≡ false → NoCode sh words
 
 -- Every track with a flagged cell is marked.
-pub record FlaggedMarked (words marks : List ℕ) : Type 0 where
+pub record FlaggedMarked (words : List ℕ) (marks : List Bool) : Type 0 where
   pub size : length marks ≡ 18
-  pub marks_at : (g m : ℕ) → g < 18 → bit_at (get_or words m 0) g ≡ true → get_or marks g 0 ≡ 1
+  pub marks_at : (g m : ℕ) → g < 18 → bit_at (get_or words m 0) g ≡ true → get_or marks g false ≡ true

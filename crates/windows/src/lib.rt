@@ -1,43 +1,33 @@
 // Flags by stretch: the test of a table of pairs, the words of the cells that it flags, a word a position, and the windows of the positions.
 #![tactic(auto)]
 
-ghost use Rattle.std.specs.Prelude.{◌≡◌, ◌+◌, ◌*◌, ◌^◌, ◌<◌, ◌≤◌, length};
+ghost use Rattle.std.specs.Prelude.{◌≡◌, ◌+◌, ◌*◌, ◌<◌, ◌≤◌, length, fold, bit_or};
 ghost use Rattle.code.specs.Record.{track_length};
 ghost use Rattle.code.specs.Image.{image_size};
 ghost use Rattle.code.specs.Flags.{word_flags};
 ghost use Rattle.code.specs.Lost.{read_values, is_lost};
 ghost use Rattle.code.specs.Reach.{pick, flags_code};
-ghost use Rattle.code.specs.Spans.{Broken, window};
-ghost use Rattle.code.specs.Sizes.{shape, Small};
+ghost use Rattle.code.specs.Spans.{Broken, table_of, window};
+ghost use Rattle.code.specs.Sizes.{shape};
 ghost use Rattle.track.specs.Track.{Readings};
 ghost use Rattle.checks.specs.Lost.{LostTold};
 ghost use Rattle.flags.specs.Marks.{ReadImage};
-ghost use Rattle.windows.specs.Steps.{RunFlagged, StretchFlagged, StretchEnd, TrackFlagged, LostAdded, Widened, Joined, AllCoded, Gathered};
-ghost use Rattle.windows.specs.Windows.{pairs_table, TableTested, Blank, TableFlagged, LostFlagged, WindowsFound, FlaggedMarked};
+ghost use Rattle.windows.specs.Steps.{RunFlagged, StretchFlagged, StretchEnd, TrackFlagged, LostAdded, Widened, Joined, AllCoded};
+ghost use Rattle.windows.specs.Windows.{TableTested, Blank, TableFlagged, LostFlagged, WindowsFound, FlaggedMarked};
 
-use code::Sizes;
-
-// A number of a pair, wide enough to be added: offset and length can be anything below 2^32.
-fn index(x: u32) -> usize
-    ensures is { result ≡ x }
-    ensures small { result < 2 ^ 32 }
-{
-    x as usize
-}
+use code::{Sizes, Span};
 
 // Is a table of pairs right, for an image of `cells` cells? A pair may begin where the previous one ends.
-pub fn is_right(pairs: &[[u32; 2]], cells: usize) -> bool
-    ensures { TableTested cells (pairs_table pairs.now) result }
+pub fn is_right(spans: &[Span], cells: usize) -> bool
+    ensures { TableTested cells (table_of spans.now) result }
 {
-    let n = pairs.len();
-    if 64 < n {
+    if 64 < spans.len() {
         return false;
     }
     let mut end: usize = 0;
-    let mut k = 0;
-    while k < n {
-        let from = index(pairs[k][0]);
-        let size = index(pairs[k][1]);
+    for span in spans {
+        let from = span.offset as usize;
+        let size = span.length as usize;
         if size == 0 {
             return false;
         }
@@ -48,20 +38,19 @@ pub fn is_right(pairs: &[[u32; 2]], cells: usize) -> bool
         if cells < end {
             return false;
         }
-        k += 1;
     }
     true
 }
+
+// A stretch of an image, `from` and `to`, is cut at the ends of tracks of l cells by three functions: a struct of the three numbers would be
+// made anew for each piece.
 
 // Flags a run of positions of one track, whose bit this is.
 fn flag_run(words: &mut [u32], bit: u32)
     ensures { RunFlagged words.old bit words.new }
 {
-    let n = words.len();
-    let mut m = 0;
-    while m < n {
-        words[m] = words[m] | bit;
-        m += 1;
+    for word in words.iter_mut() {
+        *word |= bit;
     }
 }
 
@@ -97,6 +86,7 @@ fn flag_pair(l: usize, from: usize, to: usize, words: &mut [u32])
     ensures { StretchFlagged l words.old from to words.new }
 {
     let mut at = from;
+    // A step is as long as its track has cells left, so no range counts the steps.
     while at < to {
         let end = stretch_end(l, at, to);
         flag_stretch(l, at, end, words);
@@ -105,20 +95,16 @@ fn flag_pair(l: usize, from: usize, to: usize, words: &mut [u32])
 }
 
 // Flags the cells of a table.
-pub fn flag_pairs(z: Sizes, pairs: &[[u32; 2]], words: &mut [u32])
-    requires small { Small z }
-    requires fact { Broken (image_size (shape z)) (pairs_table pairs.now) → ⊥ }
+pub fn flag_pairs(z: Sizes, spans: &[Span], words: &mut [u32])
+    requires fact { Broken (image_size (shape z)) (table_of spans.now) → ⊥ }
     requires blank { Blank (track_length (shape z)) words.old }
-    ensures { TableFlagged (shape z) (pairs_table pairs.now) words.new }
+    ensures { TableFlagged (shape z) (table_of spans.now) words.new }
 {
-    let l = z.positions + (z.t1 + z.t2 + 1);
-    let n = pairs.len();
-    let mut k = 0;
-    while k < n {
-        let from = index(pairs[k][0]);
-        let size = index(pairs[k][1]);
+    let l = z.track_length();
+    for span in spans {
+        let from = span.offset as usize;
+        let size = span.length as usize;
         flag_pair(l, from, from + size, words);
-        k += 1;
     }
 }
 
@@ -136,11 +122,9 @@ fn flag_lost_cells(track: &[u8], bit: u32, words: &mut [u32])
     requires track_in_bounds { length track.now ≤ length words.old }
     ensures { TrackFlagged track.now words.old bit words.new }
 {
-    let n = track.len();
-    let mut m = 0;
-    while m < n {
-        words[m] = words[m] | lost_bit(track[m], bit);
-        m += 1;
+    // By an index: of words that are zipped with the cells the checker knows nothing after the loop.
+    for m in 0..track.len() {
+        words[m] |= lost_bit(track[m], bit);
     }
 }
 
@@ -170,7 +154,6 @@ fn flag_lost_track(image: &[u8], l: usize, g: usize, words: &mut [u32])
 
 // Flags the lost cells of an image. An image without one is not scanned.
 pub fn flag_lost(z: Sizes, image: &[u8], lost: bool, words: &mut [u32])
-    requires small { Small z }
     requires read_image { ReadImage (shape z) image.now }
     requires lost_told { LostTold image.now lost }
     requires words_len { length words.old ≡ track_length (shape z) }
@@ -179,25 +162,9 @@ pub fn flag_lost(z: Sizes, image: &[u8], lost: bool, words: &mut [u32])
     if !lost {
         return;
     }
-    let l = z.positions + (z.t1 + z.t2 + 1);
-    let all = z.t1 + z.t2 + 4;
-    let mut g = 0;
-    while g < all {
+    let l = z.track_length();
+    for g in 0..z.all_tracks() {
         flag_lost_track(image, l, g, words);
-        g += 1;
-    }
-}
-
-// Makes the words of `near` those of `words`: the windows of one position.
-fn copy_words(words: &[u32], near: &mut [u32])
-    requires { length near.old ≡ length words.now }
-    ensures { near.new ≡ words.now }
-{
-    let n = words.len();
-    let mut m = 0;
-    while m < n {
-        near[m] = words[m];
-        m += 1;
     }
 }
 
@@ -205,14 +172,8 @@ fn copy_words(words: &[u32], near: &mut [u32])
 fn widen(near: &mut [u32], d: usize)
     ensures { Widened near.old d near.new }
 {
-    if near.len() <= d {
-        return;
-    }
-    let n = near.len() - d;
-    let mut m = 0;
-    while m < n {
-        near[m] = near[m] | near[m + d];
-        m += 1;
+    for m in 0..near.len().saturating_sub(d) {
+        near[m] |= near[m + d];
     }
 }
 
@@ -228,7 +189,6 @@ fn join_windows(near: &mut [u32])
 
 // The code of the tracks that a word flags.
 fn word_code(z: Sizes, word: u32) -> u8
-    requires { Small z }
     ensures { result ≡ flags_code (shape z) (word_flags (shape z) word) }
 {
     let marks = flags::marks_of(word);
@@ -237,53 +197,40 @@ fn word_code(z: Sizes, word: u32) -> u8
 
 // Has every word a code? Only where a word differs from the one before is its code looked up. A word without a flag has one.
 fn all_coded(z: Sizes, near: &[u32]) -> bool
-    requires { Small z }
     ensures { AllCoded (shape z) near.now result }
 {
-    let n = near.len();
     let mut last: u32 = 0;
-    let mut m = 0;
-    while m < n {
-        let word = near[m];
-        if word != last {
-            if word_code(z, word) == 0 {
+    for word in near {
+        if *word != last {
+            if word_code(z, *word) == 0 {
                 return false;
             }
-            last = word;
+            last = *word;
         }
-        m += 1;
     }
     true
 }
 
 // The windows of all positions, and whether each has a code.
 pub fn find_windows(z: Sizes, words: &[u32], near: &mut [u32]) -> bool
-    requires small { Small z }
     requires words_len { length words.now ≡ track_length (shape z) }
     requires near_len { length near.old ≡ track_length (shape z) }
     ensures { WindowsFound (shape z) words.now near.new result }
 {
-    copy_words(words, near);
+    near.copy_from_slice(words);
     join_windows(near);
     all_coded(z, near)
 }
 
 // The bits of all words.
 fn gather(words: &[u32]) -> u32
-    ensures { Gathered words.now result }
+    ensures { result ≡ fold bit_or 0 words.now }
 {
-    let n = words.len();
-    let mut all: u32 = 0;
-    let mut m = 0;
-    while m < n {
-        all = all | words[m];
-        m += 1;
-    }
-    all
+    words.iter().fold(0, |all, word| all | word)
 }
 
 // The marks of the tracks with a flagged cell.
-pub fn marks_in(words: &[u32]) -> [u8; 18]
+pub fn marks_in(words: &[u32]) -> [bool; 18]
     ensures { FlaggedMarked words.now result }
 {
     flags::marks_of(gather(words))

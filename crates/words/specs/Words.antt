@@ -40,12 +40,6 @@ source s mask p = p + s * bit mask p - s * back (bit mask) p s
 pub record Swapped (x s mask r : ℕ) : Type 0 where
   pub cells : (p : ℕ) → p < 64 → bit mask p + back (bit mask) p s < 2 → bit r p ≡ bit x (source s mask p)
 
--- The first n cells from `at` on, a byte each.
-pub record Spaced (stretch : List ℕ) (at n r : ℕ) : Type 0 where
-  pub cells : (b m : ℕ) → b < n → at + b ≡ m → bit r (8 * b) ≡ get_or stretch m 0
-  pub gaps : (b c : ℕ) → b < 8 → 0 < c → c < 8 → bit r (8 * b + c) ≡ 0
-  pub none : (b : ℕ) → n ≤ b → b < 8 → bit r (8 * b) ≡ 0
-
 -- The 64 cells from `at` on, 0 past the end.
 pub record Packed (stretch : List ℕ) (at r : ℕ) : Type 0 where
   pub cells : (k m : ℕ) → k < 64 → at + k ≡ m → bit r k ≡ get_or stretch m 0

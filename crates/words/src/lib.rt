@@ -10,7 +10,6 @@ ghost use Rattle.words.specs.Words.{
   Quotient,
   Fed,
   Swapped,
-  Spaced,
   Packed,
   Unloaded,
   Spread,
@@ -42,7 +41,7 @@ pub fn first_cells(w: u64, n: usize) -> u64
     (w << rest) >> rest
 }
 
-// Divides a word by 1 + D^d: the steps double.
+// Divides a word by 1 + D^d: the steps double, so that no range has them.
 fn divide_word(word: u64, d: usize) -> u64
     requires d_nonzero { 0 < d }
     requires d_bound { d < 64 }
@@ -51,7 +50,7 @@ fn divide_word(word: u64, d: usize) -> u64
     let mut w = word;
     let mut s = d;
     while s < 64 {
-        w = w ^ (w << s);
+        w ^= w << s;
         s += s;
     }
     w
@@ -76,6 +75,8 @@ pub fn quotient_word(r: u64, prior: u64, d: usize, n: usize) -> u64
 
 // ---- Loading
 
+// That a stretch has bits alone is asked by the three functions that read it: cells are lent as bytes, as C has them.
+
 // Exchanges, in pairs, the bits of the mask and those `s` positions above them.
 fn swap_bits(x: u64, s: usize, mask: u64) -> u64
     requires { s < 64 }
@@ -89,26 +90,9 @@ fn swap_bits(x: u64, s: usize, mask: u64) -> u64
 fn transpose(x: u64) -> u64
     ensures { (b c : ℕ) → b < 8 → c < 8 → bit result (8 * c + b) ≡ bit x (8 * b + c) }
 {
-    swap_bits(
-        swap_bits(swap_bits(x, 7, 0xaa_00aa_00aa_00aa), 14, 0xcccc_0000_cccc),
-        28,
-        0xf0f0_f0f0,
-    )
-}
-
-// Eight cells, a byte each.
-fn read_eight(stretch: &[u8], at: usize) -> u64
-    requires at_in_bounds { at + 8 ≤ length stretch.now }
-    requires bits { Bits stretch.now }
-    ensures { Spaced stretch.now at 8 result }
-{
-    let mut x: u64 = 0;
-    let mut k = 0;
-    while k < 8 {
-        x = x ^ ((stretch[at + k] as u64) << (8 * k));
-        k += 1;
-    }
-    x
+    let pairs = swap_bits(x, 7, 0xaa_00aa_00aa_00aa);
+    let fours = swap_bits(pairs, 14, 0xcccc_0000_cccc);
+    swap_bits(fours, 28, 0xf0f0_f0f0)
 }
 
 // The word of 64 cells.
@@ -118,10 +102,8 @@ fn full_word(stretch: &[u8], at: usize) -> u64
     ensures { Packed stretch.now at result }
 {
     let mut x: u64 = 0;
-    let mut k = 0;
-    while k < 8 {
-        x = x ^ (read_eight(stretch, at + 8 * k) << k);
-        k += 1;
+    for k in 0..8 {
+        x ^= track::eight_at(stretch, at + 8 * k) << k;
     }
     transpose(x)
 }
@@ -133,12 +115,9 @@ fn rest_word(stretch: &[u8], at: usize) -> u64
     requires bits { Bits stretch.now }
     ensures { Packed stretch.now at result }
 {
-    let n = stretch.len() - at;
     let mut w: u64 = 0;
-    let mut k = 0;
-    while k < n {
-        w = w ^ ((stretch[at + k] as u64) << k);
-        k += 1;
+    for (k, x) in stretch[at..].iter().enumerate() {
+        w ^= (*x as u64) << k;
     }
     w
 }
@@ -166,10 +145,8 @@ fn unload_word(cells: &mut [u8], at: usize, w: u64)
     ensures { Unloaded cells.old at w cells.new }
 {
     let t = transpose(w);
-    let mut k = 0;
-    while k < 8 {
+    for k in 0..8 {
         track::put(cells, at + 8 * k, (t >> k) & 0x101_0101_0101_0101);
-        k += 1;
     }
 }
 
@@ -178,10 +155,7 @@ pub fn unload(words: &[u64], cells: &mut [u8])
     requires { length cells.old ≡ 64 * length words.now }
     ensures { Spread words.now cells.old cells.new }
 {
-    let n = words.len();
-    let mut i = 0;
-    while i < n {
-        unload_word(cells, 64 * i, words[i]);
-        i += 1;
+    for (i, w) in words.iter().enumerate() {
+        unload_word(cells, 64 * i, *w);
     }
 }

@@ -1,136 +1,91 @@
 // Writer of a cartridge file.
 #![tactic(auto)]
 
-ghost use Rattle.std.specs.Prelude.{◌≡◌, ◌++◌, ◌+◌, ◌*◌, ◌≤◌, length};
+ghost use Rattle.std.specs.Prelude.{◌≡◌, ◌++◌, ◌+◌, ◌*◌, ◌≤◌, length, Decides, IfOk};
 ghost use Rattle.code.specs.Files.{bytes_of, entry_blocks, entry_size, directory_size, most_entries, most_bytes, HasRoom, cut, directory, file_of};
 ghost use Rattle.code.specs.Numbers.{Passed};
 ghost use Rattle.code.specs.Calls.{entry_checks, all_entries_checks};
 ghost use Rattle.code.specs.Promises.{FileWritten};
-ghost use Rattle.code.specs.Answers.{result_of};
+ghost use Rattle.code.specs.Answers.{done_of, written_of};
 ghost use Rattle.checks.specs.First.{FirstAnswer};
-ghost use Rattle.files.specs.Steps.{Told};
 
-use code::{Answer, Written, plain_answer};
+use code::Refusal;
 
 // ---- Checks
 
-// The size of the entry with which these bytes begin, by its block count.
-fn entry_bytes(left: &[u8]) -> usize
-    requires { 6 ≤ length left.now }
-    ensures { result ≡ entry_size (entry_blocks left.now) }
+// The size of the entry at the start of these bytes, or the first check that it does not pass.
+fn check_entry(left: &[u8]) -> Result<usize, Refusal>
+    ensures first { FirstAnswer (entry_checks left.now) (done_of result) }
+    ensures size { IfOk result (λ size. size ≡ entry_size (entry_blocks left.now)) }
 {
-    6 + 18 * (files::two(left, 4) as usize + 2)
-}
-
-// The number of the first check that the entry at the start of these bytes does not pass, and 0 where it passes all.
-fn check_entry(left: &[u8]) -> Answer
-    ensures { FirstAnswer (entry_checks left.now) (result_of result) }
-{
-    let size = left.len();
-    if size < 6 {
-        return plain_answer(2, 0);
+    if left.len() < 6 {
+        return Err(Refusal::InputLength);
     }
-    let n = files::two(left, 4) as usize;
+    let n = usize::from(files::two(left, 4));
     if 256 < n {
-        return plain_answer(1, 0);
+        return Err(Refusal::BlockCount);
     }
-    let end = 6 + 18 * (n + 2);
-    if size < end {
-        return plain_answer(2, 0);
+    let size = files::entry_size(left);
+    if left.len() < size {
+        return Err(Refusal::InputLength);
     }
-    if packed::padding_set(&left[6..end], n) {
-        return plain_answer(8, 0);
+    if packed::padding_set(&left[6..size], n) {
+        return Err(Refusal::Padding);
     }
-    plain_answer(0, 0)
+    Ok(size)
 }
 
 // Entry by entry; it ends with the bytes, whatever the number of entries.
-fn check_entries(count: u32, entries: &[u8]) -> Answer
-    ensures { FirstAnswer (all_entries_checks count entries.now) (result_of result) }
+fn check_entries(count: u32, entries: &[u8]) -> Result<(), Refusal>
+    ensures { FirstAnswer (all_entries_checks count entries.now) (done_of result) }
 {
-    let mut left = count;
-    let mut from = 0;
-    while 0 < left {
-        let first = check_entry(&entries[from..]);
-        if first.number != 0 {
-            return first;
-        }
-        from += entry_bytes(&entries[from..]);
-        left -= 1;
+    let mut left = entries;
+    for _ in 0..count {
+        let size = check_entry(left)?;
+        left = &left[size..];
     }
-    if from != entries.len() {
-        return plain_answer(2, 0);
+    if !left.is_empty() {
+        return Err(Refusal::InputLength);
     }
-    plain_answer(0, 0)
+    Ok(())
 }
 
 // Does a file with this number of entries, and of `bytes` bytes in them, fit the file's limits and the output?
 fn fits(count: u32, bytes: usize, room: usize) -> bool
-    ensures { Told (HasRoom count (directory_size count + bytes) room) result }
+    ensures { Decides result (HasRoom count (directory_size count + bytes) room) }
 {
-    if 64 < count {
-        return false;
-    }
-    if 65536 < bytes {
-        return false;
-    }
-    let size = 2 + 8 * count as usize + bytes;
-    if 65536 < size {
-        return false;
-    }
-    if room < size {
-        return false;
-    }
-    true
+    let directory = files::directory_size(count);
+    count <= 64 && bytes <= 65536 && directory + bytes <= 65536 && directory + bytes <= room
 }
 
 // ---- The file
 
-// Writes a number as two bytes, most significant byte first.
-fn put_two(bytes: &mut [u8], x: u32)
-    requires { length bytes.old ≡ 2 }
-    ensures { bytes.new ≡ bytes_of 2 x }
-{
-    bytes[0] = (x / 256 % 256) as u8;
-    bytes[1] = (x % 256) as u8;
-}
-
-// Writes a number as four bytes.
-fn put_four(bytes: &mut [u8], x: u32)
-    requires { length bytes.old ≡ 4 }
-    ensures { bytes.new ≡ bytes_of 4 x }
-{
-    put_two(&mut bytes[0..2], x / 65536);
-    put_two(&mut bytes[2..4], x);
-}
-
-// Writes an entry's offset and length.
+// Writes an entry's offset and length, most significant byte first.
 fn put_place(place: &mut [u8], offset: u32, size: u32)
     requires { length place.old ≡ 8 }
     ensures { place.new ≡ bytes_of 4 offset ++ bytes_of 4 size }
 {
-    put_four(&mut place[0..4], offset);
-    put_four(&mut place[4..8], size);
+    place[..4].copy_from_slice(&offset.to_be_bytes());
+    place[4..].copy_from_slice(&size.to_be_bytes());
 }
 
 // Writes the offsets and lengths of entries that follow the directory without gaps.
-fn put_directory(places: &mut [u8], count: usize, entries: &[u8])
+fn put_directory(places: &mut [u8], count: u32, entries: &[u8])
     requires count_le_most_entries { count ≤ most_entries }
     requires entries_len_bound { length entries.now ≤ most_bytes }
     requires places_len { length places.old ≡ 8 * count }
     requires passed { Passed (all_entries_checks count entries.now) }
     ensures { places.new ≡ directory (directory_size count) (cut count entries.now) }
 {
-    let first = 2 + 8 * count;
-    let mut from = 0;
-    let mut i = 0;
-    while i < count {
-        let size = entry_bytes(&entries[from..]);
+    let mut offset = files::directory_size(count);
+    let mut left = entries;
+    for i in 0..count as usize {
+        let size = files::entry_size(left);
         let at = 8 * i;
         let end = at + 8;
-        put_place(&mut places[at..end], (first + from) as u32, size as u32);
-        from += size;
-        i += 1;
+        put_place(&mut places[at..end], offset as u32, size as u32);
+        offset += size;
+        left = &left[size..];
     }
 }
 
@@ -142,39 +97,23 @@ fn put_file(out: &mut [u8], count: u32, entries: &[u8])
     requires passed { Passed (all_entries_checks count entries.now) }
     ensures { out.new ≡ file_of (cut count entries.now) }
 {
-    let first = 2 + 8 * count as usize;
-    put_two(&mut out[0..2], count);
-    put_directory(&mut out[2..first], count as usize, entries);
-    track::copy_long(&mut out[first..], entries);
+    let first = files::directory_size(count);
+    out[..2].copy_from_slice(&(count as u16).to_be_bytes());
+    put_directory(&mut out[2..first], count, entries);
+    out[first..].copy_from_slice(entries);
 }
 
 // ---- The call
 
-// An answer without a file.
-fn refused(number: u32) -> Written
-    ensures { result ≡ record { answer = number; length = 0 } }
-{
-    Written {
-        answer: number,
-        length: 0,
-    }
-}
-
 // Writer: a file of these entries goes to the start of the output.
-pub fn write(count: u32, entries: &[u8], out: &mut [u8]) -> Written
-    ensures { FileWritten count entries.now out.old result out.new }
+pub fn write(count: u32, entries: &[u8], out: &mut [u8]) -> Result<u32, Refusal>
+    ensures { FileWritten count entries.now out.old (written_of result) out.new }
 {
-    let first = check_entries(count, entries);
-    let number = first.number;
-    let fit = fits(count, entries.len(), out.len());
-    if number != 0 {
-        return refused(number);
+    check_entries(count, entries)?;
+    if !fits(count, entries.len(), out.len()) {
+        return Err(Refusal::Room);
     }
-    if !fit {
-        return refused(11);
-    }
-    let size = 2 + 8 * count as usize + entries.len();
+    let size = files::directory_size(count) + entries.len();
     put_file(&mut out[..size], count, entries);
-    let length = size as u32;
-    Written { answer: 0, length }
+    Ok(size as u32)
 }

@@ -1,10 +1,7 @@
--- The call's own promise, carried to the struct of numbers.
+-- An extra's number is a track number by what `repair` ensures.
 use Rattle.code.specs.Supply.{mend, repair}
 use Rattle.code.proofs.Supply.{extras_numbered}
 use Rattle.axp_c.proofs.axp_repair.Goals as goal
 
-pub for_c-requires : goal.for_c-requires
-for_c-requires c = extras_numbered (mend repair _ _ _ _) _ _ c.repair.ensures
-
 pub returns : goal.returns
-returns c = rw c.for_c.ensures c.repair.ensures
+returns c = rw (c.into.ensures (extras_numbered (mend repair _ _ _ _) _ _ c.repair.ensures)) c.repair.ensures

@@ -1,65 +1,27 @@
-use mathlib.Core.Path.{◌≡◌, sym, ◌∙◌}
-use Prim.Native.Nat.{◌≤◌}
-use native.Mathlib.Numerals.{add-one}
-use native.Mathlib.Omega.{arith}
-use borrow.Author.Rules.{rules}
-use lib.Pow.{pow_mono}
-use Rattle.code.specs.Record.{track_length, sum}
-use Rattle.code.specs.Image.{all_tracks}
-use Rattle.code.specs.Sizes.{shape}
-use Rattle.changes.specs.Changes.{changed_at}
-use Rattle.changes.proofs.Tracks.{has_track, changed_le, cells_sum, mask_sum, mask_some, mask_none, unmarked_unchanged}
+use Rattle.std.proofs.Common.{arith}
+use Rattle.changes.proofs.Tracks.{has_track, counting_none, counting_more, counting_same, counting_all, few_changed}
 use Rattle.changes.proofs.count_changes.Goals as goal
-use Rattle.changes.proofs.count_changes.Goals.{else-marks-g-eq1, then-marks-g-eq1}
+use Rattle.changes.proofs.count_changes.Goals.{then-marks-g, else-marks-g}
 
 pub loop-g-init : goal.loop-g-init
-unfolding sum
-loop-g-init c = search rules
+loop-g-init c = counting_none _ _ _
 
 pub count_track-changed-requires : goal.count_track-changed-requires
-count_track-changed-requires c = has_track _ _ _ _ c.requires _ (omega arith)
+count_track-changed-requires c = rw c.track_length-l.ensures (has_track _ _ _ _ c.requires _ (omega arith))
 
-pub overflow_cast-count : goal.overflow_cast-count
-overflow_cast-count c =
-    let s = c.args in
-    let changed_here : c.if-marks-g-eq1.changed ≡ changed_at (track_length (shape s.z)) s.image.now s.out.now c.loop-g.g =
-    elim c.if-marks-g-eq1.branch [ then-marks-g-eq1 w ↦ w.changed-is ∙ w.count_track-changed.ensures | else-marks-g-eq1 w ↦ w.changed-is ∙ sym (unmarked_unchanged _ _ _ _ c.requires _ (omega arith) w.if-marks-g-eq1.false) ] in
-    let few_here : c.if-marks-g-eq1.changed ≤ 2063 = omega (arith, changed_here, changed_le (shape s.z) s.image.now s.out.now c.loop-g.g (omega arith)) in
-    omega (arith, few_here)
+pub overflow_cast-cells : goal.overflow_cast-cells
+overflow_cast-cells c = omega (arith, few_changed _ _ _ _ c.requires _ c.track_length-l.ensures c.loop-g.g (omega arith) _ c.count_track-changed.ensures)
 
-pub overflow_add-count : goal.overflow_add-count
-overflow_add-count c =
-    let s = c.args in
-    let changed_here : c.if-marks-g-eq1.changed ≡ changed_at (track_length (shape s.z)) s.image.now s.out.now c.loop-g.g =
-    elim c.if-marks-g-eq1.branch [ then-marks-g-eq1 w ↦ w.changed-is ∙ w.count_track-changed.ensures | else-marks-g-eq1 w ↦ w.changed-is ∙ sym (unmarked_unchanged _ _ _ _ c.requires _ (omega arith) w.if-marks-g-eq1.false) ] in
-    let few_here : c.if-marks-g-eq1.changed ≤ 2063 = omega (arith, changed_here, changed_le (shape s.z) s.image.now s.out.now c.loop-g.g (omega arith)) in
-    omega (arith, few_here)
-
-pub overflow_add-mask : goal.overflow_add-mask
-overflow_add-mask c = omega (arith, pow_mono {i = c.loop-g.g} {j = 18} (omega arith))
-
-pub overflow_mul-place : goal.overflow_mul-place
-overflow_mul-place c = omega (arith, pow_mono {i = c.loop-g.g} {j = 18} (omega arith))
+pub overflow_add-cells : goal.overflow_add-cells
+overflow_add-cells c =
+    omega (arith, c.loop-g.invariant.count_small, few_changed _ _ _ _ c.requires _ c.track_length-l.ensures c.loop-g.g (omega arith) _ c.count_track-changed.ensures)
 
 pub loop-g-preserved : goal.loop-g-preserved
-unfolding sum
 loop-g-preserved c =
-    let s = c.args in
-    let changed_here : c.if-marks-g-eq1.changed ≡ changed_at (track_length (shape s.z)) s.image.now s.out.now c.loop-g.g =
-    elim c.if-marks-g-eq1.branch [ then-marks-g-eq1 w ↦ w.changed-is ∙ w.count_track-changed.ensures | else-marks-g-eq1 w ↦ w.changed-is ∙ sym (unmarked_unchanged _ _ _ _ c.requires _ (omega arith) w.if-marks-g-eq1.false) ] in
-    let few_here : c.if-marks-g-eq1.changed ≤ 2063 = omega (arith, changed_here, changed_le (shape s.z) s.image.now s.out.now c.loop-g.g (omega arith)) in
-    let l = c.loop-g in
-    let g = add-one l.g in (
-      search rules,
-      omega arith,
-      omega (arith, few_here),
-      rw g (omega arith),
-      rw g (omega arith),
-      rw g (grind (arith, mask_some l.g (changed_at (track_length (shape s.z)) s.image.now s.out.now l.g), mask_none l.g (changed_at (track_length (shape s.z)) s.image.now s.out.now l.g), changed_here)),
-    )
+    elim c.if-marks-g.branch [
+      | then-marks-g w ↦ rw (w.mask-is, w.cells-is) (counting_more _ _ _ _ c.requires _ c.track_length-l.ensures c.loop-g.g (omega arith) _ _ _ _ c.loop-g.invariant w.count_track-changed.ensures w.mask_bit-mask.ensures)
+      | else-marks-g w ↦ rw (w.mask-is, w.cells-is) (counting_same _ _ _ _ c.requires _ c.track_length-l.ensures c.loop-g.g (omega arith) _ _ w.if-marks-g.false c.loop-g.invariant)
+    ]
 
 pub returns : goal.returns
-returns c =
-    let l = c.loop-g in
-    let e : l.g ≡ all_tracks (shape c.args.z) = omega arith in
-    record { mask_is = rw e at l.invariant.5 ∙ sym (mask_sum _ _ _); cells_are = rw e at l.invariant.4 ∙ sym (cells_sum _ _ _) }
+returns c = counting_all c.args.z _ _ _ _ _ _ c.track_length-l.ensures (omega arith) c.loop-g.invariant

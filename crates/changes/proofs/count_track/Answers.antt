@@ -1,5 +1,5 @@
 -- `count_track`: a track is its stretch.
-use mathlib.Core.Path.{◌∙◌}
+use Rattle.std.proofs.Common.{◌∙◌}
 use Rattle.changes.proofs.Tracks.{part_changed}
 use Rattle.changes.proofs.count_track.Goals as goal
 

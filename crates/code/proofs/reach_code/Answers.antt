@@ -6,12 +6,6 @@ use Rattle.code.proofs.Codes.{code_far}
 use Rattle.code.proofs.Table.{table_at}
 use Rattle.code.proofs.reach_code.Goals as goal
 
-pub returns-then-a-ge10 : goal.returns-then-a-ge10
-returns-then-a-ge10 c = sym (code_far c.args.a c.args.b (λ p q. omega arith))
-
-pub returns-then-b-ge10 : goal.returns-then-b-ge10
-returns-then-b-ge10 c = sym (code_far c.args.a c.args.b (λ p q. omega arith))
-
 -- The constant, as the code has it.
 abbrev table : List (List ℕ)
 table =
@@ -21,6 +15,9 @@ table =
     ∷ (1 ∷ 1 ∷ 0 ∷ 0 ∷ 0 ∷ 0 ∷ 0 ∷ 0 ∷ 0 ∷ 0 ∷ [])
     ∷ replicate 6 (replicate 10 0)
 
-pub returns : goal.returns
+pub returns-then-b-lt10 : goal.returns-then-b-lt10
 unfolding reach_code look_up
-returns c = table_at reach_code 10 10 table [] tt c.args.a c.args.b (omega arith) (omega arith)
+returns-then-b-lt10 c = table_at reach_code 10 10 table [] tt c.args.a c.args.b (omega arith) (omega arith)
+
+pub returns-else-a-lt10 : goal.returns-else-a-lt10
+returns-else-a-lt10 c = sym (code_far c.args.a c.args.b (λ p q. omega arith))

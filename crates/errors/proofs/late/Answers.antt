@@ -7,9 +7,6 @@ use Rattle.errors.specs.Rows.{cell}
 use Rattle.errors.proofs.Charging.{shown_none, shown_first, shown_later}
 use Rattle.errors.proofs.late.Goals as goal
 
-pub overflow_sub-from : goal.overflow_sub-from
-overflow_sub-from c = c.requires.k_le_at (omega arith)
-
 pub returns-then-end-from : goal.returns-then-end-from
 returns-then-end-from c = record {
   near = λ l n b. let a = c.args in

@@ -1,5 +1,5 @@
 -- `track_lost`: a track is its stretch, and the highest byte tells of it.
-use mathlib.Core.Path.{◌∙◌}
+use Rattle.std.proofs.Common.{◌∙◌}
 use Rattle.flags.proofs.Lost.{stretch_reading, stretch_lost}
 use Rattle.flags.proofs.track_lost.Goals as goal
 

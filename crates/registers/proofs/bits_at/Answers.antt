@@ -4,5 +4,4 @@ use Rattle.registers.proofs.Bytes.{bits_place}
 use Rattle.registers.proofs.bits_at.Goals as goal
 
 pub returns : goal.returns
-returns c =
-    bits_place _ _ _ _ _ c.low.ensures c.high.ensures (search rules) c.places.ensures
+returns c = bits_place _ _ _ _ _ c.words-x.ensures (search rules) c.places.ensures

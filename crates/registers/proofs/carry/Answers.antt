@@ -1,21 +1,20 @@
 use mathlib.Core.Path.{◌≡◌, ◌∙◌}
-use Prim.Native.Nat.{◌+◌, ◌*◌}
 use native.Mathlib.Omega.{arith}
-use borrow.Author.Rules.{rules}
-use Rattle.registers.proofs.Tracks.{passing_none}
+use Rattle.registers.proofs.Tracks.{passing_none, block_passed, tail_passed}
 use Rattle.registers.proofs.carry.Goals as goal
 
 pub loop-block-init : goal.loop-block-init
-loop-block-init c = (omega arith, search rules, search rules, passing_none _ _ _ _)
+loop-block-init c = passing_none _ _ _ _
 
 pub loop-block-preserved : goal.loop-block-preserved
 loop-block-preserved c =
-    let l = c.loop-block in
-    let next : 8 * l.block + 8 ≡ 8 * (l.block + 1) = omega arith in
-    (omega arith, c.pass_block-r.auto.a ∙ l.invariant.1, c.pass_block-r.auto.b ∙ l.invariant.2, rw next at c.pass_block-r.ensures)
+    block_passed _ _ _ _ _ _ _ _ _ _ _ _ _ _ _ _ _ _ _ c.loop-block-test.true c.block_bytes-bytes.ensures c.loop-block.invariant c.pass_two.ensures c.pass_two-in-loop-block.ensures
+    c.pass_two-in-loop-block-2.ensures c.pass_two-r.ensures
 
 pub returns : goal.returns
 returns c =
     let l = c.loop-block in
+    let a = c.copy_from_slice.ensures in
+    let b = c.copy_from_slice-2.ensures in
     let all : l.block ≡ c.args.blocks = omega arith in
-    c.pass_tail.ensures.carried _ (rw all at l.invariant.3)
+    tail_passed _ _ _ _ _ _ _ (l.auto.a ∙ c.requires.size_a) (l.auto.b ∙ c.requires.size_b) a.len b.len a.after b.after (rw all at l.invariant)

@@ -4,5 +4,4 @@ use Rattle.registers.proofs.Bytes.{shifted_place}
 use Rattle.registers.proofs.shifted.Goals as goal
 
 pub returns : goal.returns
-returns c =
-    shifted_place _ _ _ _ _ _ _ c.low-x.ensures c.high-y.ensures c.low.ensures c.high.ensures (search rules) c.places.ensures
+returns c = shifted_place _ _ _ _ _ _ _ c.words-x.ensures c.words-u.ensures (search rules) c.places.ensures

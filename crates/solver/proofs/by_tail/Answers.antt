@@ -1,16 +1,10 @@
--- Each way settles the cell by the sum for its track.
+-- The sum that is added is that of the track in the tail.
 use native.Mathlib.Omega.{arith}
-use Rattle.solver.proofs.Settling.{settled_check, settled_zero, settled_top}
+use Rattle.solver.proofs.Settling.{settled_added, settled_sum}
 use Rattle.solver.proofs.by_tail.Goals as goal
 
-pub returns-then-t-eq0 : goal.returns-then-t-eq0
-returns-then-t-eq0 c =
-    settled_check c.if-t-eq0.true c.by_own.ensures
-
-pub returns-then-t-data_tracks : goal.returns-then-t-data_tracks
-returns-then-t-data_tracks c =
-    settled_zero c.if-t-eq0.false (omega arith) c.clear_cell.ensures
-
-pub returns : goal.returns
-returns c =
-    settled_top (omega arith) c.by_vertical.ensures
+pub returns-then-t-tracks : goal.returns-then-t-tracks
+returns-then-t-tracks c =
+    let h = c.requires in
+    let b = c.tail_bit-bit.ensures in
+    rw c.in-Some.is (settled_sum _ b.sum (settled_added _ b.bit h.kept (record { track_small = omega arith; position_small = h.p_bound }) c.add_any.ensures))

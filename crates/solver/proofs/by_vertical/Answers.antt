@@ -1,16 +1,11 @@
--- The sum that `mend` reads is the vertical of the set.
+-- The sum that is added is the vertical of the set.
 use native.Mathlib.Omega.{arith}
-use Rattle.solver.proofs.Settling.{settled_vertical}
+use Rattle.solver.proofs.Settling.{settled_added, settled_sum}
 use Rattle.solver.proofs.by_vertical.Goals as goal
 
-pub mend-requires : goal.mend-requires
-mend-requires c = record {
-  kept = c.requires.kept;
-  cell = record { set_small = c.requires.s_bound; track_small = omega arith; position_small = c.requires.p_bound };
-  row_bound = omega arith;
-  m_bound = c.requires.p_bound;
-}
-
-pub returns-then-t-data_tracks : goal.returns-then-t-data_tracks
-returns-then-t-data_tracks c =
-    settled_vertical c.requires.kept c.requires.s_bound c.requires.p_bound c.mend.ensures
+pub returns-then-t-tracks : goal.returns-then-t-tracks
+returns-then-t-tracks c =
+    let h = c.requires in
+    let e = rw (c.row.ensures, c.track_length.ensures) at c.add_any.ensures in
+    rw c.in-Some.is (settled_sum _ (h.kept.holds.verticals c.args.s c.args.p h.p_bound)
+    (settled_added _ (h.kept.holds.bits _) h.kept (record { track_small = omega arith; position_small = h.p_bound }) e))

@@ -1,21 +1,19 @@
--- A syndrome is a bit, and is added to the cell.
+-- The way's syndrome is a bit, and is added to the cell.
 use native.Mathlib.Omega.{arith}
-use Rattle.solver.proofs.Settling.{settled_added}
+use Rattle.solver.proofs.Settling.{settled_added, way_in}
 use Rattle.solver.proofs.settle.Goals as goal
 
-pub add_cell-requires : goal.add_cell-requires
-add_cell-requires c =
-    let h = c.requires in
-    record {
-      kept = h.kept;
-      track = h.track;
-      line_of = h.line_of;
-      p_lt_positions = h.p_lt_positions;
-      w_bound = h.kept.holds.bits c.args.i;
-    }
+pub overflow_add-bit : goal.overflow_add-bit
+overflow_add-bit c =
+    let w = rw c.in-Some.is at c.requires.way_of in
+    let r = way_in c.requires.kept w.0 c.args.p w.1 c.requires.p_lt_positions in
+    omega (arith, r, c.requires.kept.holds.size)
 
-pub returns : goal.returns
-returns c =
+pub bounds-syn-w : goal.bounds-syn-w
+bounds-syn-w c = let w = rw c.in-Some.is at c.requires.way_of in way_in c.requires.kept w.0 c.args.p w.1 c.requires.p_lt_positions
+
+pub returns-in-Some : goal.returns-in-Some
+returns-in-Some c =
     let h = c.requires in
-    settled_added _ _ (h.kept.holds.bits c.args.i) h.kept
-    (record { set_small = h.track.set_small; track_small = h.track.track_small; position_small = omega arith }) c.add_cell.ensures
+    let w = rw c.in-Some.is at h.way_of in
+    rw c.in-Some.is (settled_added _ (h.kept.holds.bits _) h.kept (record { track_small = w.1.track; position_small = omega arith }) c.add_cell.ensures)

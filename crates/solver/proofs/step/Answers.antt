@@ -1,27 +1,14 @@
--- The three cells one after the other.
+-- The three cells one after the other, each by its rule.
+use Rattle.solver.specs.declared.Rule.TheVariants.{Own, Other, Vertical}
+use Rattle.solver.proofs.Settling.{settled_way}
 use Rattle.solver.proofs.Stepping.{stepped_data}
 use Rattle.solver.proofs.step.Goals as goal
 
-pub high_at-requires : goal.high_at-requires
-high_at-requires c =
-    let h = c.requires in
-    record {
-      kept = c.low_at.ensures.kept;
-      s_bound = h.s_bound;
-      line_of = h.line_of_2;
-      p_lt_positions = h.m_lt_positions;
-    }
-
-pub last_at-requires : goal.last_at-requires
-last_at-requires c =
-    let h = c.requires in
-    record {
-      kept = c.high_at.ensures.kept;
-      s_bound = h.s_bound;
-      line_of = h.line_of_3;
-      p_lt_positions = h.m_lt_positions;
-    }
-
 pub returns : goal.returns
 returns c =
-    stepped_data c.requires.m_lt_positions c.low_at.ensures c.high_at.ensures c.last_at.ensures
+    let a = c.args in
+    let h = c.requires in
+    let b = h.m_lt_positions in
+    stepped_data b (settled_way h.kept Own a.ways.low a.m h.ways_of.low b c.settle.ensures)
+    (settled_way c.settle.ensures.kept Other a.ways.high a.m h.ways_of.high b c.settle-2.ensures)
+    (settled_way c.settle-2.ensures.kept Vertical a.ways.last a.m h.ways_of.last b c.settle-3.ensures)

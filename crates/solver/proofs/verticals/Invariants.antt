@@ -1,10 +1,6 @@
--- The invariant: the track is right from `from` up to p. The measure is what is left.
-use Prim.Native.Nat.{◌-◌, ◌≤◌}
+-- The invariant: the track is right from `from` up to p.
 use Rattle.solver.specs.Steps.{Ahead}
 use Rattle.solver.proofs.verticals.Given as goal
 
 abbrev pub invariant-loop-p : goal.invariant-loop-p
-invariant-loop-p l = (l.p ≤ l.to) × Ahead l.z l.s l.t l.from l.p l.initial.out l.out l.syn
-
-abbrev pub decreases-loop-p : goal.decreases-loop-p
-decreases-loop-p l = l.to - l.p
+invariant-loop-p l = Ahead l.z l.s l.fn.track l.from l.p l.initial.out l.out l.syn

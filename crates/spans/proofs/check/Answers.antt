@@ -1,41 +1,18 @@
 -- `check`: the numbers of `check_image`, then 9.
-use mathlib.Core.Path.{ap}
-use mathlib.Core.List.{[], ◌∷◌}
-use Prim.Native.Nat.{◌+◌, ◌*◌}
-use native.Mathlib.Omega.{arith}
+use Rattle.std.proofs.Common.{refl}
 use Rattle.code.specs.Record.{base}
 use Rattle.code.specs.Image.{image_size}
-use Rattle.code.specs.Lost.{read_values}
-use Rattle.code.specs.Numbers.{image_checks, table_check, Passed}
-use Rattle.code.proofs.Numbers.{answer_of}
-use Rattle.checks.proofs.Refusing.{refuses, next_refuses, next_passes, image_passes}
-use Rattle.windows.specs.Windows.{pairs_table}
+use Rattle.code.specs.Numbers.{image_checks, table_check}
+use Rattle.code.specs.Spans.{table_of}
+use Rattle.checks.proofs.Refusing.{next_refuses, next_passes, image_passes}
 use Rattle.spans.proofs.check.Goals as goal
 
-pub returns-then-first-ne0 : goal.returns-then-first-ne0
-returns-then-first-ne0 c =
+pub returns-then-not-is_right-clause-first : goal.returns-then-not-is_right-clause-first
+returns-then-not-is_right-clause-first c =
     let a = c.args in
-    record {
-      first = refuses (image_checks _ _ _ _ _ _) (table_check (image_size (base a.blocks)) (pairs_table a.pairs.now) ∷ []) _ _ _ (λ k e. e) c.check_image-seen.ensures.first c.if-first-ne0.true;
-      told = c.check_image-seen.ensures.told;
-    }
+    next_refuses (image_checks _ _ _ _ _ _) (table_check (image_size (base a.blocks)) (table_of a.spans.now)) _ (image_passes _ _ _ _ _ _ c.in_ok-lost.ensures.first) (c.is_right.ensures.not_right c.if-not-is_right.true) refl
 
-pub returns-then-not-is_right : goal.returns-then-not-is_right
-returns-then-not-is_right c =
-    let passed_here : let a = c.args in let size = 18 * (8 * a.blocks + 15) in Passed (image_checks read_values a.blocks size a.image.now size a.room) =
-    image_passes _ _ _ _ _ _ _ c.check_image-seen.ensures.first c.if-first-ne0.false in
+pub returns-clause-first : goal.returns-clause-first
+returns-clause-first c =
     let a = c.args in
-    record {
-      first = next_refuses (image_checks _ _ _ _ _ _) (table_check (image_size (base a.blocks)) (pairs_table a.pairs.now)) _ passed_here (c.is_right.ensures.not_right c.if-not-is_right.true) c.plain_answer-refused.ensures;
-      told = λ z. absurd (omega (arith, z, ap answer_of c.plain_answer-refused.ensures));
-    }
-
-pub returns : goal.returns
-returns c =
-    let passed_here : let a = c.args in let size = 18 * (8 * a.blocks + 15) in Passed (image_checks read_values a.blocks size a.image.now size a.room) =
-    image_passes _ _ _ _ _ _ _ c.check_image-seen.ensures.first c.if-first-ne0.false in
-    let a = c.args in
-    record {
-      first = next_passes (image_checks _ _ _ _ _ _) (table_check (image_size (base a.blocks)) (pairs_table a.pairs.now)) _ passed_here (c.is_right.ensures.yes_right c.if-not-is_right.false) c.plain_answer-passed.ensures;
-      told = λ z. c.check_image-seen.ensures.told c.if-first-ne0.false;
-    }
+    next_passes (image_checks _ _ _ _ _ _) (table_check (image_size (base a.blocks)) (table_of a.spans.now)) _ (image_passes _ _ _ _ _ _ c.in_ok-lost.ensures.first) (c.is_right.ensures.yes_right c.if-not-is_right.false) refl

@@ -1,27 +1,19 @@
--- `repair_cells`: either room is large enough for four rows.
-use mathlib.Core.Path.{sym}
-use native.Mathlib.Omega.{arith}
-use lib.Seq.{length-take-le}
+-- `repair_cells`: the output is the working copy and `syn` holds its syndromes, so its flagged cells can be solved.
+use Rattle.std.proofs.Common.{refl}
+use Rattle.spans.proofs.Records.{copied, kept, only_flagged, found, none_found}
 use Rattle.spans.proofs.repair_cells.Goals as goal
 
-pub slice_bounds-repair_by-end : goal.slice_bounds-repair_by-end
-slice_bounds-repair_by-end c = sym (length-take-le _ _ (omega arith))
+pub syndromes-requires-clause-image : goal.syndromes-requires-clause-image
+syndromes-requires-clause-image c = copied _ _ _ _ _ c.requires.given _ c.copy_known.ensures
 
-pub repair_by-requires : goal.repair_by-requires
-repair_by-requires c =
-    let p = c.requires in
-    record {
-      given = p;
-      syn_len = length-take-le _ _ (omega arith);
-    }
+pub solve-requires-clause-kept : goal.solve-requires-clause-kept
+solve-requires-clause-kept c = kept c.args.z _ _ _ _ c.requires.given _ _ c.copy_known.ensures c.syndromes.ensures
 
-pub slice_bounds-repair_by-end-else-l-le143 : goal.slice_bounds-repair_by-end-else-l-le143
-slice_bounds-repair_by-end-else-l-le143 c = sym (length-take-le _ _ (omega arith))
+pub answer_of-requires : goal.answer_of-requires
+answer_of-requires c = only_flagged c.args.z _ _ _ _ c.requires.given _ _ _ _ c.copy_known.ensures c.solve.ensures
 
-pub repair_by-requires-else-l-le143 : goal.repair_by-requires-else-l-le143
-repair_by-requires-else-l-le143 c =
-    let p = c.requires in
-    record {
-      given = p;
-      syn_len = length-take-le _ _ (omega (arith, p.small));
-    }
+pub returns-then-solve : goal.returns-then-solve
+returns-then-solve c = found c.args.z _ _ _ _ c.requires.given _ _ _ _ c.copy_known.ensures c.solve.ensures c.if-solve.true _ c.answer_of.ensures
+
+pub returns : goal.returns
+returns c = none_found c.args.z _ _ _ _ c.requires.given _ _ _ _ c.copy_known.ensures c.solve.ensures c.if-solve.false _ c.copy_into.ensures _ refl

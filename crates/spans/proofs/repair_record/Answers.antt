@@ -1,42 +1,19 @@
--- `repair_record`: either room is large enough for a word a position, and its words are 0.
-use mathlib.Core.Path.{sym}
-use native.Mathlib.Omega.{arith}
-use lib.Seq.{length-take-le}
-use Rattle.code.specs.Record.{track_length}
+-- `repair_record`: the words flag the cells of the table and the lost ones, and where a window has no code the number is 6.
+use Rattle.std.proofs.Common.{refl, inl, inr}
 use Rattle.code.specs.Sizes.{shape}
-use Rattle.spans.proofs.Flagging.{blank_words}
+use Rattle.code.specs.Spans.{table_of}
+use Rattle.spans.proofs.Flagging.{too_many, none_too_many, repairs_table}
 use Rattle.spans.proofs.repair_record.Goals as goal
 
-pub slice_bounds-repair_in-end : goal.slice_bounds-repair_in-end
-slice_bounds-repair_in-end c = sym (length-take-le _ _ (omega arith))
+pub returns-then-not-find_windows : goal.returns-then-not-find_windows
+returns-then-not-find_windows g c =
+    inl (too_many _ _ _ _ c.flag_cells.ensures (c.find_windows.ensures.no_code c.if-not-find_windows.true), record { result = refl; output = refl })
 
-pub slice_bounds-repair_in-end-then-l-le143 : goal.slice_bounds-repair_in-end-then-l-le143
-slice_bounds-repair_in-end-then-l-le143 c = sym (length-take-le _ _ (omega arith))
-
-pub repair_in-requires : goal.repair_in-requires
-repair_in-requires c =
-    let p = c.requires in
-    record {
-      tabled = p.tabled;
-      lost_told = p.lost_told;
-      out_len = p.out_len;
-      blank = blank_words (track_length (shape c.args.z)) 143 (omega arith);
-      near_len = length-take-le _ _ (omega arith);
-    }
-
-pub slice_bounds-repair_in-end-else-l-le143 : goal.slice_bounds-repair_in-end-else-l-le143
-slice_bounds-repair_in-end-else-l-le143 c = sym (length-take-le _ _ (omega arith))
-
-pub slice_bounds-repair_in-end-else-l-le143-2 : goal.slice_bounds-repair_in-end-else-l-le143-2
-slice_bounds-repair_in-end-else-l-le143-2 c = sym (length-take-le _ _ (omega arith))
-
-pub repair_in-requires-else-l-le143 : goal.repair_in-requires-else-l-le143
-repair_in-requires-else-l-le143 c =
-    let p = c.requires in
-    record {
-      tabled = p.tabled;
-      lost_told = p.lost_told;
-      out_len = p.out_len;
-      blank = blank_words (track_length (shape c.args.z)) 2063 (omega (arith, p.tabled.small));
-      near_len = length-take-le _ _ (omega (arith, p.tabled.small));
-    }
+pub returns : goal.returns
+returns g c =
+    let a = c.args in
+    let table = table_of a.spans.now in
+    inr (
+      none_too_many (shape a.z) table a.image.now _ c.flag_cells.ensures _ (c.find_windows.ensures.coded c.if-not-find_windows.false),
+      repairs_table (shape a.z) table a.image.now _ c.flag_cells.ensures _ _ _ c.repair_cells.ensures,
+    )

@@ -1,41 +1,16 @@
-use mathlib.Core.Path.{◌≡◌, sym, ◌∙◌}
+use mathlib.Core.Path.{◌≡◌}
 use native.Mathlib.Omega.{arith}
 use Rattle.stretches.proofs.Advancing.{set_run_none, set_run_more}
 use Rattle.stretches.proofs.set_run.Goals as goal
 
 pub loop-m-init : goal.loop-m-init
-loop-m-init c = let h = c.requires in (omega arith, h.from_le_to, set_run_none h.kept)
+loop-m-init c = set_run_none c.requires.kept
 
-pub step-requires : goal.step-requires
-step-requires c =
-    let h = c.requires in
-    record {
-      kept = c.loop-m.invariant.2.kept;
-      s_bound = h.s_bound;
-      m_lt_positions = omega (arith, c.loop-m-test.true, h.to_le_positions);
-      line_of = c.find_line-low.ensures;
-      line_of_2 = c.find_line-high.ensures;
-      line_of_3 = c.find_line-last.ensures;
-    }
-
-pub overflow_add-m : goal.overflow_add-m
-overflow_add-m c = let h = c.requires in record { fits = omega (arith, c.loop-m-test.true, h.to_le_positions, h.kept.small.positions_small) }
+pub step-requires-clause-kept : goal.step-requires-clause-kept
+step-requires-clause-kept c = c.loop-m.invariant.kept
 
 pub loop-m-preserved : goal.loop-m-preserved
-loop-m-preserved c =
-    let h = c.requires in
-    let r = c.loop-m.invariant in
-    let l = c.loop-m-test.true in
-    (omega (arith, r.0), omega (arith, l), set_run_more r.0 (omega (arith, l, h.to_le_positions)) r.2 c.step.ensures)
-
-pub shape_of-out : goal.shape_of-out
-shape_of-out c = c.loop-m.invariant.2.kept.image.size ∙ sym c.requires.kept.image.size
-
-pub shape_of-syn : goal.shape_of-syn
-shape_of-syn c = c.loop-m.invariant.2.kept.holds.size ∙ sym c.requires.kept.holds.size
+loop-m-preserved c = set_run_more (omega arith) (omega arith) c.loop-m.invariant (rw (c.ways-ways.ensures.tracks c.requires.exist) at c.step.ensures)
 
 pub returns : goal.returns
-returns c =
-    let l = c.loop-m in
-    let e : l.m ≡ c.args.to = omega (arith, l.invariant.1, c.loop-m-test.false) in
-    rw e at l.invariant.2
+returns c = let e : c.loop-m.m ≡ c.args.part.to = omega arith in rw e at c.loop-m.invariant

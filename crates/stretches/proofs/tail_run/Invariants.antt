@@ -1,10 +1,6 @@
--- The invariant: all is right from `from` up to m. The measure is what is left.
-use Prim.Native.Nat.{◌-◌, ◌≤◌}
+-- The invariant: all is right from the part's beginning up to m.
 use Rattle.stretches.specs.Steps.{AllRun}
 use Rattle.stretches.proofs.tail_run.Given as goal
 
 abbrev pub invariant-loop-m : goal.invariant-loop-m
-invariant-loop-m l = (l.from ≤ l.m) × (l.m ≤ l.to) × AllRun l.z l.a l.b l.from l.m l.initial.out l.out l.syn
-
-abbrev pub decreases-loop-m : goal.decreases-loop-m
-decreases-loop-m l = l.to - l.m
+invariant-loop-m l = AllRun l.part.z l.a l.b l.part.from l.m l.initial.out l.out l.syn

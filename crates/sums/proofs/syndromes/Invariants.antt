@@ -1,12 +1,9 @@
--- `syndromes` meets its contract. The loop's invariant: the rows hold the sums of the positions before m. Assumes nothing.
-use Prim.Native.Nat.{◌-◌}
+-- The rows hold the sums of the first i runs.
+use Rattle.std.proofs.Common.{◌*◌}
 use Rattle.code.specs.Image.{cells}
 use Rattle.code.specs.Sizes.{shape}
 use Rattle.sums.specs.Run.{Done}
 use Rattle.sums.proofs.syndromes.Given as goal
 
-abbrev pub invariant-loop-m : goal.invariant-loop-m
-invariant-loop-m l = Done (shape l.z) (cells (shape l.z) l.image) l.m l.syn
-
-abbrev pub decreases-loop-m : goal.decreases-loop-m
-decreases-loop-m l = l.l - l.m
+abbrev pub invariant-loop-i : goal.invariant-loop-i
+invariant-loop-i l = Done (shape l.fn.z) (cells (shape l.fn.z) l.fn.image) (64 * l.i) l.syn

@@ -1,51 +1,58 @@
 -- `try_choice`: the form is that of the flagged tracks and the extras.
-use mathlib.Core.Path.{refl}
+use mathlib.Core.Path.{sym, ◌∙◌}
+use mathlib.Core.Bool.{true≢false}
 use native.Mathlib.Omega.{arith}
-use Rattle.code.specs.Record.{A, B}
+use Rattle.code.specs.declared.sizes.TrackSet.TheVariants.{A, B}
 use Rattle.code.specs.Sizes.{shape}
 use Rattle.code.proofs.Cell.{vertical_data, vertical_within}
-use Rattle.repair.proofs.Making.{start_quiet, found_as}
-use Rattle.trace.proofs.Trying.{three_a, three_b, choice_form, choice_passed, choice_unexplained, choice_tried}
+use Rattle.trace.proofs.Trying.{three_a, three_b, choice_form, choice_passed, choice_unexplained, choice_failed, choice_fits}
 use Rattle.trace.proofs.try_choice.Goals as goal
+use Rattle.trace.proofs.try_choice.Goals.{then-not-explained_by-via-then-not-explained_by, then-not-explained_by-via-else-not-explained_by+then-not-explained_by-2}
 
 pub returns-then-not-allows : goal.returns-then-not-allows
-returns-then-not-allows c = let s = c.requires in choice_passed _ _ _ _ _ _ _ s.traceable _ _ s.choice _ (c.allows.ensures.not_allowed c.if-not-allows.true) _ s.fresh _
+returns-then-not-allows c = let s = c.requires in choice_passed _ _ s.traceable _ s.choice _ s.fresh (c.allows.ensures.not_allowed c.if-not-allows.true)
 
-pub returns-then-not-explains : goal.returns-then-not-explains
-returns-then-not-explains c = let s = c.requires in choice_unexplained _ _ _ _ _ _ _ s.traceable _ _ s.choice _ A _ c.if-not-explains.true c.explains.ensures _ s.fresh _
-
-pub returns-then-not-explains-2 : goal.returns-then-not-explains-2
-returns-then-not-explains-2 c = let s = c.requires in choice_unexplained _ _ _ _ _ _ _ s.traceable _ _ s.choice _ B _ c.if-not-explains-2.true c.explains-2.ensures _ s.fresh _
-
-pub form_of-p-requires : goal.form_of-p-requires
-form_of-p-requires c =
+pub returns-then-not-explained_by : goal.returns-then-not-explained_by
+returns-then-not-explained_by c =
     let s = c.requires in
-    let i = c.insert-in_a.ensures in
-    let j = c.insert-in_b.ensures in
-    record {
-      small = s.traceable.small;
-      sorted = (three_a _ _ _ _ _ _ _ s.traceable _ _ s.choice (c.allows.ensures.yes_allowed c.if-not-allows.false) _ _ i j).sorted;
-      sorted_2 = (three_b _ _ _ _ _ _ _ s.traceable _ _ s.choice (c.allows.ensures.yes_allowed c.if-not-allows.false) _ _ i j).sorted;
-    }
+    elim c.then-not-explained_by.branch [
+      | then-not-explained_by-via-then-not-explained_by w ↦
+          choice_unexplained _ _ s.traceable _ s.choice _ s.fresh A (λ h. true≢false (sym (c.explained_by.ensures.1 h) ∙ w.if-not-explained_by.true))
+      | then-not-explained_by-via-else-not-explained_by+then-not-explained_by-2 w ↦
+          choice_unexplained _ _ s.traceable _ s.choice _ s.fresh B (λ h. true≢false (sym (w.explained_by-else-not-explained_by.ensures.1 h) ∙ w.if-not-explained_by-2.true))
+    ]
 
-pub find-fits-requires : goal.find-fits-requires
-find-fits-requires c =
-    let e = c.vertical_end-end.ensures in
+pub form_of-p-requires-clause-sorted : goal.form_of-p-requires-clause-sorted
+form_of-p-requires-clause-sorted c =
     let s = c.requires in
-    let p = choice_form _ _ _ _ _ _ _ s.traceable _ _ s.choice (c.allows.ensures.yes_allowed c.if-not-allows.false) _ _ c.insert-in_a.ensures c.insert-in_b.ensures _ c.form_of-p.ensures in
-    let w = s.traceable.started in
-    record {
-      given = record { small = s.traceable.small; end_data = omega (arith, e, vertical_data (shape c.args.z)); end_small = omega (arith, e, vertical_within (shape c.args.z)); sized = p.sized; sums = s.traceable.sums; errors = s.fresh.rows };
-      start_bound = w.within;
-      quiet = start_quiet _ _ _ w;
-      fresh_2 = s.fresh;
-    }
+    (three_a _ _ s.traceable _ s.choice (c.allows.ensures.yes_allowed c.if-not-allows.false) _ c.insert-x.ensures).sorted
+
+pub form_of-p-requires-clause-sorted_2 : goal.form_of-p-requires-clause-sorted_2
+form_of-p-requires-clause-sorted_2 c =
+    let s = c.requires in
+    (three_b _ _ s.traceable _ s.choice (c.allows.ensures.yes_allowed c.if-not-allows.false) _ c.insert-y.ensures).sorted
+
+pub find-requires-clause-given : goal.find-requires-clause-given
+find-requires-clause-given c =
+    let e = c.vertical_end.ensures in
+    let s = c.requires in
+    let p = choice_form _ _ s.traceable _ s.choice (c.allows.ensures.yes_allowed c.if-not-allows.false) _ _ c.insert-x.ensures c.insert-y.ensures _ c.form_of-p.ensures in
+    record { end_data = omega (arith, e, vertical_data (shape c.args.tracer.z)); end_small = omega (arith, e, vertical_within (shape c.args.tracer.z)); sized = p.sized; sums = s.traceable.sums; errors = s.fresh.rows }
+
+pub returns-then-not-find : goal.returns-then-not-find
+returns-then-not-find c =
+    let s = c.requires in
+    let w = c.if-not-find.ensures in
+    choice_failed _ _ s.traceable _ s.choice _ w.fresh _
+    (choice_form _ _ s.traceable _ s.choice (c.allows.ensures.yes_allowed c.if-not-allows.false) _ _ c.insert-x.ensures c.insert-y.ensures _ c.form_of-p.ensures)
+    (rw c.vertical_end.ensures at w.found)
 
 pub returns : goal.returns
 returns c =
     let s = c.requires in
-    let p = choice_form _ _ _ _ _ _ _ s.traceable _ _ s.choice (c.allows.ensures.yes_allowed c.if-not-allows.false) _ _ c.insert-in_a.ensures c.insert-in_b.ensures _ c.form_of-p.ensures in
-    let w = c.find-fits.ensures in
-    choice_tried _ _ _ _ _ _ _ s.traceable _ _ s.choice _ (c.allows.ensures.yes_allowed c.if-not-allows.false)
-    (elim [ A ↦ c.explains.ensures.yes_explained c.if-not-explains.false | B ↦ c.explains-2.ensures.yes_explained c.if-not-explains-2.false ])
-    _ p _ w.fresh _ (found_as _ _ _ _ _ _ _ _ c.vertical_end-end.ensures refl w.found)
+    let w = c.if-not-find.ensures in
+    let allowed = c.allows.ensures.yes_allowed c.if-not-allows.false in
+    choice_fits _ _ s.traceable _ s.choice _ w.fresh _
+    (choice_form _ _ s.traceable _ s.choice allowed _ _ c.insert-x.ensures c.insert-y.ensures _ c.form_of-p.ensures) allowed
+    (elim [ A ↦ c.explained_by.ensures.0 c.if-not-explained_by.false | B ↦ c.explained_by-else-not-explained_by.ensures.0 c.if-not-explained_by-2.false ])
+    (rw c.vertical_end.ensures at w.found)

@@ -1,15 +1,14 @@
-use mathlib.Core.Path.{◌≡◌, refl}
+use mathlib.Core.Path.{◌≡◌}
 use mathlib.Core.List.{List}
 use Prim.Native.Nat.{ℕ, ◌≤◌, ◌<◌, ◌-◌, ◌+◌, ◌%◌}
 use native.Mathlib.Decide.{dec_lt}
 use native.Mathlib.Omega.{arith}
 use borrow.Author.Rules.{rules}
 use lib.ListN.{length, get_or}
-use lib.Bits.{xor_add_and, xor_lt}
 use Rattle.code.specs.Record.{back}
 use Rattle.code.proofs.Sums.{back_at, back_early}
 use Rattle.track.specs.Track.{Bits, Added}
-use Rattle.track.proofs.Cells.{every, Written, written_none, written_more}
+use Rattle.track.proofs.Cells.{every, Written}
 use Rattle.track.proofs.add_track.Invariants.{summed}
 use Rattle.track.proofs.add_track.Goals as goal
 
@@ -29,20 +28,5 @@ added before track off n now w end bits =
         let e : (m - off) + off ≡ m = omega arith in
         rw (back_at (λ p. get_or track p 0) (m - off) off m e) (rw e at (w.done (m - off) m (omega arith) e))
 
-pub loop-k-init : goal.loop-k-init
-loop-k-init c = (search rules, written_none _ _ _)
-
-pub loop-k-preserved : goal.loop-k-preserved
-loop-k-preserved c =
-    let s = c in
-    let l = c.loop-k in
-    let i : ℕ = l.k + s.args.off in
-    let same = l.invariant.1.later i (search rules) in
-    let x = get_or s.args.acc.now i 0 in
-    let y = get_or s.args.track.now l.k 0 in
-    let p = s.requires.bits.bit i in
-    let q = s.requires.bits_2.bit l.k in
-    (search rules, written_more _ _ _ _ _ _ _ l.invariant.1 refl (search rules) (rw same (omega (arith, xor_add_and x y, xor_lt 1 x y p q))))
-
 pub returns : goal.returns
-returns c = added _ _ _ _ _ c.loop-k.invariant.1 (search rules) c.requires.bits
+returns c = added _ _ _ _ _ c.loop-k.invariant (search rules) c.requires.bits

@@ -1,13 +1,9 @@
--- `count_differing`: the loop's invariant is that `count` is the number of places below i that differ.
+-- `count_differing`: the first k blocks are counted.
 use mathlib.Core.Path.{◌≡◌}
-use Prim.Native.Nat.{◌≤◌, ◌-◌}
-use lib.ListN.{get_or}
-use Rattle.code.specs.Calls.{differ}
+use Prim.Native.Nat.{◌≤◌, ◌*◌}
 use Rattle.code.specs.Record.{sum}
+use Rattle.track.proofs.Differing.{differs}
 use Rattle.track.proofs.count_differing.Given as goal
 
-abbrev pub invariant-loop-i : goal.invariant-loop-i
-invariant-loop-i l = (l.i ≤ l.n) × (l.count ≤ l.i) × (l.count ≡ sum l.i (λ m. differ (get_or l.a m 0) (get_or l.b m 0)))
-
-abbrev pub decreases-loop-i : goal.decreases-loop-i
-decreases-loop-i l = l.n - l.i
+abbrev pub invariant-loop-k : goal.invariant-loop-k
+invariant-loop-k l = (l.count ≤ 224 * l.k) × (l.count ≡ sum (224 * l.k) (differs l.a l.b))

@@ -1,16 +1,20 @@
 -- `highest`: every cell is in one of the two parts.
-use mathlib.Core.Path.{◌≡◌, sym}
+use mathlib.Core.Path.{◌≡◌, sym, ◌∙◌}
 use mathlib.Core.Logic.{by_cases}
 use mathlib.Core.List.{List}
-use Prim.Native.Nat.{ℕ, ◌+◌, ◌-◌, ◌<◌, ◌≤◌}
+use Prim.Native.Nat.{ℕ, ◌+◌, ◌-◌, ◌<◌, ◌≤◌, max}
 use native.Mathlib.Decide.{dec_lt}
 use native.Mathlib.Omega.{arith}
 use borrow.Rule.Slice.PartMut.{mid_len}
 use borrow.Author.Rules.{rules}
 use lib.ListN.{length, get_or, take, drop}
 use lib.Seq.{get_or-take, length-take-le}
+use Rattle.std.specs.List.{reduce}
+use Rattle.std.proofs.lemmas.Iterator.{YieldsList-from_slice}
+use Rattle.std.proofs.lemmas.Iterator.Consumers.{max_from_yields_List, YieldsList-from_copied}
+use Rattle.std.proofs.lemmas.Iterator.Adapters.{option_map_id}
 use Rattle.track.specs.Track.{Highest, HighestTwo}
-use Rattle.track.proofs.Cells.{every}
+use Rattle.track.proofs.Cells.{every, highest_max}
 use Rattle.track.proofs.Parts.{part_at}
 use Rattle.track.proofs.highest.Goals as goal
 
@@ -39,11 +43,11 @@ highest_of_parts xs h from r inside meet t = record {
 same_size : (xs : List ℕ) (h : ℕ) → h ≤ length xs → length (take (length xs - (length xs - h)) (drop (length xs - h) xs)) ≡ length (take h xs)
 same_size xs h inside = omega (arith, length-take-le h xs inside, mid_len (length xs - h) (length xs) xs (omega arith))
 
-pub slice_bounds-highest_two-end : goal.slice_bounds-highest_two-end
-slice_bounds-highest_two-end c = sym (length-take-le _ _ (search rules))
-
-pub highest_two-requires : goal.highest_two-requires
-highest_two-requires c = same_size _ _ (search rules)
+pub returns-then-n-lt32 : goal.returns-then-n-lt32
+returns-then-n-lt32 c =
+    let s = c.args.s.now in
+    let most : c.max.result ≡ reduce max s = sym (option_map_id _) ∙ max_from_yields_List _ _ c.max.ensures.ran (YieldsList-from_copied (YieldsList-from_slice s cc)) in
+    rw (c.unwrap_or.ensures, most) (highest_max s)
 
 pub returns : goal.returns
 returns c =

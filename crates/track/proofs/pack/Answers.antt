@@ -24,26 +24,6 @@ gathered x y a b c d e f g h la lb lc ld le lf lg lh p q =
     ≡ 0x100 * (0x80 * b + 0x8040 * c + 0x80_4020 * d + 0x8 * f + 0x804 * g + 0x8_0402 * h) + (128 * a + 64 * b + 32 * c + 16 * d + 8 * e + 4 * f + 2 * g + h) = omega arith in
     rw (high, whole) (rest _ _ (byte a b c d e f g h la lb lc ld le lf lg lh))
 
-pub four-high-requires : goal.four-high-requires
-four-high-requires c =
-    let p = c.requires.bits in
-    record {
-      a_bound = p.bit _;
-      b_bound = p.bit _;
-      c_bound = p.bit _;
-      d_bound = p.bit _;
-    }
-
-pub four-low-requires : goal.four-low-requires
-four-low-requires c =
-    let p = c.requires.bits in
-    record {
-      a_bound = p.bit _;
-      b_bound = p.bit _;
-      c_bound = p.bit _;
-      d_bound = p.bit _;
-    }
-
 pub returns : goal.returns
 unfolding digits
 returns c =

@@ -1,12 +1,8 @@
--- `all_coded`: the loop's invariant is that the word before and the first m words have a code.
-use Prim.Native.Nat.{ℕ, ◌≤◌, ◌<◌, ◌-◌}
-use lib.ListN.{get_or}
+-- `all_coded`: the loop's invariant is that the last word looked up and the words before this one have a code.
+use Rattle.std.proofs.Common.{ℕ, ◌<◌, get_or}
 use Rattle.code.specs.Sizes.{shape}
 use Rattle.windows.proofs.Coding.{Coded}
 use Rattle.windows.proofs.all_coded.Given as goal
 
-abbrev pub invariant-loop-m : goal.invariant-loop-m
-invariant-loop-m l = (l.m ≤ l.n) × Coded (shape l.z) l.last × ((k : ℕ) → k < l.m → Coded (shape l.z) (get_or l.near k 0))
-
-abbrev pub decreases-loop-m : goal.decreases-loop-m
-decreases-loop-m l = l.n - l.m
+abbrev pub invariant-loop-word : goal.invariant-loop-word
+invariant-loop-word l = Coded (shape l.z) l.last × ((k : ℕ) → k < l.word-index → Coded (shape l.z) (get_or l.near k 0))

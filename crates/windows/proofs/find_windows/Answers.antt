@@ -4,7 +4,4 @@ use Rattle.windows.proofs.Coding.{windows_found}
 use Rattle.windows.proofs.find_windows.Goals as goal
 
 pub returns : goal.returns
-returns c =
-    let j = c.join_windows.ensures in
-    let w = c.copy_words.ensures in
-    windows_found (shape c.args.z) _ _ c.requires.words_len (rw w at j) _ c.all_coded.ensures
+returns c = windows_found (shape c.args.z) _ _ c.requires.words_len (rw c.copy_from_slice.ensures.after at c.join_windows.ensures) _ c.all_coded.ensures

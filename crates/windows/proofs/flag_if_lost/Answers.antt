@@ -1,5 +1,5 @@
 -- `flag_if_lost`: a track whose highest byte is not lost stays as it is.
-use mathlib.Core.Path.{sym, ◌∙◌}
+use Rattle.std.proofs.Common.{sym, ◌∙◌}
 use Rattle.track.proofs.Lost.{most_reading}
 use Rattle.windows.proofs.LostCells.{none_in_track}
 use Rattle.windows.proofs.flag_if_lost.Goals as goal

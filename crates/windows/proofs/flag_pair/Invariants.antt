@@ -1,5 +1,5 @@
 -- `flag_pair`: the loop's invariant is that the cells up to `at` are flagged.
-use Prim.Native.Nat.{◌≤◌, ◌-◌}
+use Rattle.std.proofs.Common.{◌≤◌, ◌-◌}
 use Rattle.windows.specs.Steps.{StretchFlagged}
 use Rattle.windows.proofs.flag_pair.Given as goal
 

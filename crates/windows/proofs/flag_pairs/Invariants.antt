@@ -1,11 +1,7 @@
--- `flag_pairs`: the loop's invariant is that the cells of the first k pairs are flagged.
-use Prim.Native.Nat.{◌≤◌, ◌-◌}
-use Rattle.windows.specs.Windows.{pairs_table}
+-- `flag_pairs`: the loop's invariant is that the cells of the pairs before this one are flagged.
+use Rattle.code.specs.Spans.{table_of}
 use Rattle.windows.proofs.Tables.{PairsFlagged}
 use Rattle.windows.proofs.flag_pairs.Given as goal
 
-abbrev pub invariant-loop-k : goal.invariant-loop-k
-invariant-loop-k l = (l.k ≤ l.n) × PairsFlagged l.l (pairs_table l.pairs) l.k l.words
-
-abbrev pub decreases-loop-k : goal.decreases-loop-k
-decreases-loop-k l = l.n - l.k
+abbrev pub invariant-loop-span : goal.invariant-loop-span
+invariant-loop-span l = PairsFlagged l.l (table_of l.spans) l.span-index l.words

@@ -1,12 +1,7 @@
--- `flag_run`: the loop's invariant is that the first m words have the bit, and the rest stay.
-use Prim.Native.Nat.{◌≤◌, ◌-◌}
-use lib.Bits.{bit_or}
-use lib.ListN.{get_or}
+-- `flag_run`: the loop's invariant is that the words before this one have the bit, and the rest stay.
+use Rattle.std.proofs.Common.{bit_or, get_or}
 use Rattle.track.proofs.Cells.{Written}
 use Rattle.windows.proofs.flag_run.Given as goal
 
-abbrev pub invariant-loop-m : goal.invariant-loop-m
-invariant-loop-m l = (l.m ≤ l.n) × Written l.initial.words (λ k. bit_or (get_or l.initial.words k 0) l.bit) 0 l.m l.words
-
-abbrev pub decreases-loop-m : goal.decreases-loop-m
-decreases-loop-m l = l.n - l.m
+abbrev pub invariant-loop-word : goal.invariant-loop-word
+invariant-loop-word l = Written l.initial.words (λ k. bit_or (get_or l.initial.words k 0) l.bit) 0 l.word-index l.words

@@ -1,9 +1,6 @@
 use borrow.Author.Rules.{rules}
-use Rattle.words.proofs.Quotient.{half_start, half_more, half_whole}
+use Rattle.words.proofs.Quotient.{half_more, half_whole}
 use Rattle.words.proofs.divide_word.Goals as goal
-
-pub loop-s-init : goal.loop-s-init
-loop-s-init c = (search rules, half_start _ _)
 
 pub loop-s-preserved : goal.loop-s-preserved
 loop-s-preserved c = (search rules, half_more _ _ _ _ c.loop-s.invariant.1)

@@ -3,4 +3,4 @@ use Rattle.words.proofs.Swap.{transposed}
 use Rattle.words.proofs.transpose.Goals as goal
 
 pub returns : goal.returns
-returns c = transposed _ _ _ _ c.swap_bits.ensures c.swap_bits-2.ensures c.swap_bits-3.ensures
+returns c = transposed _ _ _ _ c.swap_bits-pairs.ensures c.swap_bits-fours.ensures c.swap_bits.ensures

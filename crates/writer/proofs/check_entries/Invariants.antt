@@ -1,9 +1,7 @@
--- `check_entries`: the loop's invariant is that what is right for the entries left is right for all of them.
+-- `check_entries`: what is right for the entries left is right for all of them.
+use Prim.Native.Nat.{◌-◌}
 use Rattle.writer.proofs.Entries.{Onward}
 use Rattle.writer.proofs.check_entries.Given as goal
 
-abbrev pub invariant-loop-left : goal.invariant-loop-left
-invariant-loop-left l = Onward l.count l.entries l.left l.from
-
-abbrev pub decreases-loop-left : goal.decreases-loop-left
-decreases-loop-left l = l.left
+abbrev pub invariant-loop : goal.invariant-loop
+invariant-loop l = Onward l.count l.entries (l.count - l.counter) l.left

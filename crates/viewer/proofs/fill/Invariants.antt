@@ -1,9 +1,0 @@
--- The loop stays within the image, and keeps its length.
-use Rattle.std.proofs.Common.{◌-◌, ◌≤◌}
-use Rattle.viewer.proofs.fill.Given as goal
-
-abbrev pub invariant-loop-i : goal.invariant-loop-i
-invariant-loop-i l = l.i ≤ l.n
-
-abbrev pub decreases-loop-i : goal.decreases-loop-i
-decreases-loop-i l = l.n - l.i
