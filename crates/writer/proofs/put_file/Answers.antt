@@ -7,5 +7,5 @@ pub returns : goal.returns
 returns c =
     let a = c.args in
     let number = c.copy_from_slice.ensures.after ∙ c.to_be_bytes.ensures ∙ two_bytes a.count in
-    rw (c.directory_size-first.ensures, number, c.copy_from_slice-2.ensures.after, c.put_directory.ensures)
+    rw (c.directory_size-first.ensures, number, c.copy_long.ensures, c.put_directory.ensures)
     (file_put a.count a.entries.now a.out.now c.requires.out_len c.requires.passed)
