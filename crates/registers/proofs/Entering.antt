@@ -7,7 +7,8 @@ use native.Mathlib.Decide.{dec_lt}
 use native.Mathlib.Omega.{arith}
 use borrow.Author.Tests.{lt-ltb, le-ltb}
 use lib.ListN.{get_or}
-use Rattle.code.specs.Record.{other, Shape, data_tracks, lag, Cells}
+use lib.Pow.{shr_le}
+use Rattle.code.specs.Record.{other, Shape, data_tracks, lag, track_length, Cells}
 use Rattle.code.specs.declared.sizes.TrackSet.{TrackSet}
 use Rattle.code.specs.declared.sizes.TrackSet.TheVariants.{A, B}
 use Rattle.code.specs.Payload.{digits, payload_index}
@@ -96,3 +97,12 @@ module _ (sh : Shape) (n : ℕ) (payload : List ℕ) (x : Cells) (sevens : Seven
   enter_data b j k m bytes cells h i e f p q = rw (sym f) (enter_by (8 * b + j) cells
       (λ s c l. (q.bits_at s).place c (omega arith) ∙ rw (p.own s c l) (data_cell b j k h i e s c l))
       (λ s c l. (q.bits_at s).place (7 + c) (omega arith) ∙ rw (p.across s c l) (data_cell b j k h i e (other s) (6 - c) (omega arith))))
+
+  -- A position of the tail: nothing.
+  pub enter_tail : (m k : ℕ) (bytes cells : Registers) → 8 * n ≤ m → m < track_length sh → ((s : TrackSet) (i : ℕ) → i < 15 → get_or (of_set s bytes.a bytes.b) i 0 ≡ 0) → CellsOf bytes k cells → Enter sh x m cells
+  enter_tail m k bytes cells h l none q = enter_by m cells
+      (λ s c g. zero_at s c (omega arith) ∙ sym (d.tail s (suc c) m (omega arith) (omega (arith, tracks_seven s)) (omega (arith, sevens.blocks)) l))
+      (λ s c g. zero_at s (7 + c) (omega arith) ∙ sym (d.tail (other s) (suc (6 - c)) m (omega arith) (omega (arith, tracks_seven (other s))) (omega (arith, sevens.blocks)) l))
+    where
+      zero_at : (s : TrackSet) (i : ℕ) → i < 15 → get_or (of_set s cells.a cells.b) i 0 ≡ 0
+      zero_at s i g = (q.bits_at s).place i g ∙ rw (none s i g) (omega (arith, shr_le 0 k))

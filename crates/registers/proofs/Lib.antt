@@ -1,4 +1,5 @@
 pub mod Bytes
 pub mod Passing
 pub mod Entering
+pub mod Sliding
 pub mod Tracks

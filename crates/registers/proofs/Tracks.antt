@@ -1,14 +1,14 @@
 -- Tracks 0 position by position.
-use mathlib.Core.Path.{◌≡◌, sym, ◌∙◌}
+use mathlib.Core.Path.{◌≡◌, sym, ap, ◌∙◌}
 use mathlib.Core.Logic.{◌≢◌, by_cases}
-use mathlib.Core.List.{List}
-use Prim.Native.Nat.{ℕ, suc, ◌+◌, ◌*◌, ◌-◌, ◌%◌, ◌<◌, ◌≤◌}
+use mathlib.Core.List.{List, append-nil}
+use Prim.Native.Nat.{ℕ, zero, suc, ◌+◌, ◌*◌, ◌-◌, ◌%◌, ◌<◌, ◌≤◌}
 use native.Mathlib.Decide.{dec_lt, ℕ_discrete}
 use native.Mathlib.Nat.{add-zero}
 use native.Mathlib.Omega.{arith}
 use borrow.Rule.Slice.PartMut.{put_mid, mid_len, same_len_mid}
-use lib.ListN.{length, get_or, take, drop, replicate, get_or-replicate}
-use lib.Seq.{get_or-set_same, get_or-set_other}
+use lib.ListN.{length, get_or, take, drop, set, replicate, get_or-replicate}
+use lib.Seq.{get_or-set_same, get_or-set_other, set-get_or}
 use Rattle.code.specs.Record.{Shape, track_length, Cells, diagonal}
 use Rattle.code.specs.declared.sizes.TrackSet.{TrackSet}
 use Rattle.code.specs.declared.sizes.TrackSet.TheVariants.{A, B}
@@ -16,10 +16,41 @@ use Rattle.track.specs.Track.{Bits}
 use Rattle.track.proofs.Cells.{every}
 use Rattle.track.proofs.Parts.{put_before, put_in}
 use Rattle.registers.specs.declared.Registers.{Registers}
+use Rattle.registers.specs.Places.{BitsAt}
 use Rattle.registers.specs.Register.{of_set, Hold, Enter, BitsTo}
-use Rattle.registers.specs.Steps.{Sevens, DataOf, ChecksOf, BlockBytes, Passed, Passing, TwoPassed, Carried}
+use Rattle.registers.specs.Steps.{Sevens, DataOf, ChecksOf, BlockBytes, CellsOf, Passed, Passing, HeldAt, Held, TwoPassed, Carried, slid, TailHeld}
 use Rattle.registers.proofs.Passing.{but_check, at_start}
-use Rattle.registers.proofs.Entering.{cells_bits, enter_data}
+use Rattle.registers.proofs.Entering.{cells_bits, enter_data, enter_tail}
+use Rattle.registers.proofs.Sliding.{slide_head, nothing, slid_stepped}
+
+-- A write at m or behind it changes nothing for the first m positions, nor for the registers that there are for them.
+pub passing_stays : (n : ℕ) (payload : List ℕ) (m : ℕ) (a b after_a after_b : List ℕ) (r : Registers) →
+    ((s : TrackSet) (q : ℕ) → q < m → get_or (of_set s after_a after_b) q 0 ≡ get_or (of_set s a b) q 0) → Passing n payload m a b r → Passing n payload m after_a after_b r
+passing_stays n payload m a b after_a after_b r stays p = record {
+  registers = p.registers;
+  tracks = record { bit = λ s q h. rw (stays s q h) (p.tracks.bit s q h) };
+  hold = λ sh x sevens d c. p.hold sh x sevens d (before x c);
+  even = λ sh x sevens d c. p.even sh x sevens d (before x c);
+}
+  where
+    before : (x : Cells) → ChecksOf m after_a after_b x → ChecksOf m a b x
+    before x c = record { cell = λ s q h. c.cell s q h ∙ stays s q h }
+
+held_stays : (n : ℕ) (payload : List ℕ) (m : ℕ) (a b after_a after_b : List ℕ) →
+    ((s : TrackSet) (q : ℕ) → q < m → get_or (of_set s after_a after_b) q 0 ≡ get_or (of_set s a b) q 0) → Held n payload m a b → Held n payload m after_a after_b
+held_stays n payload m a b after_a after_b stays h = record {
+  held = λ q l.
+      let there = h.held q l in
+      record { registers = there.registers; passing = passing_stays n payload q a b after_a after_b there.registers (λ s i g. stays s i (omega arith)) there.passing };
+}
+
+-- There are registers for one more.
+held_next : (n : ℕ) (payload : List ℕ) (m i : ℕ) (a b : List ℕ) (next : Registers) → suc m ≡ i → Held n payload m a b → Passing n payload i a b next → Held n payload i a b
+held_next n payload m i a b next e h p = record {
+  held = λ q l. by_cases (ℕ_discrete q i)
+      (λ same. rw same (record { registers = next; passing = p }))
+      (λ d. h.held q (omega arith));
+}
 
 -- One more position has passed.
 module _ (n : ℕ) (payload : List ℕ) (m k : ℕ) (r : Registers) (bytes : Registers) (a b after_a after_b : List ℕ) (next : Registers)
@@ -69,36 +100,84 @@ module _ (n : ℕ) (payload : List ℕ) (m k : ℕ) (r : Registers) (bytes : Reg
     even = next_even;
   })
 
+  held_more : (i : ℕ) → suc m ≡ i → Held n payload m a b → Held n payload i after_a after_b
+  held_more i e h = held_next n payload m i after_a after_b next e (held_stays n payload m a b after_a after_b (λ s q l. off_m s q (omega arith)) h) (passing_more i e)
+
+-- A position of the tail.
+passing_tail : (n : ℕ) (payload : List ℕ) (m k i : ℕ) (r : Registers) (bytes : Registers) (a b after_a after_b : List ℕ) (next : Registers) → ((s : TrackSet) (i : ℕ) → i < 15 → get_or (of_set s bytes.a bytes.b) i 0 ≡ 0) →
+    8 * n ≤ m → m < 8 * n + 15 → suc m ≡ i → m < length a → m < length b →
+    Passing n payload m a b r → Passed m k r bytes a b after_a after_b next → Passing n payload i after_a after_b next
+passing_tail n payload m k i r bytes a b after_a after_b next zeros h l after room_a room_b s q = passing_more n payload m k r bytes a b after_a after_b next s q room_a room_b
+    (λ sh x sevens d. enter_tail sh n payload x sevens d m k bytes q.cells h (omega (arith, sevens.t1_seven, sevens.t2_seven, sevens.blocks)) zeros q.taken) i after
+
 -- Two positions of a block.
-pub two_passed : (m k : ℕ) (r : Registers) (bytes : Registers) (a b a' b' after_a after_b : List ℕ) (r' next : Registers) → m + 2 ≤ length a → m + 2 ≤ length b → k < 7 →
-    length a' ≡ length a → length b' ≡ length b →
-    Passed m (k + 1) r bytes a b a' b' r' → Passed (m + 1) k r' bytes a' b' after_a after_b next → TwoPassed m k r bytes a b after_a after_b next
-two_passed m k r bytes a b a' b' after_a after_b r' next room_a room_b low size_a size_b p q = record {
-  passing = λ n payload block has e bs s.
-      let one = passing_more n payload m (k + 1) r bytes a b a' b' r' s p (omega arith) (omega arith)
-      (λ sh x sevens d. enter_data sh n payload x sevens d block (m - 8 * block) (k + 1) m bytes p.cells has (omega arith) (omega arith) (omega arith) bs p.taken) (m + 1) (omega arith) in
-      passing_more n payload (m + 1) k r' bytes a' b' after_a after_b next one q (omega arith) (omega arith)
-      (λ sh x sevens d. enter_data sh n payload x sevens d block (m + 1 - 8 * block) k (m + 1) bytes q.cells has (omega arith) (omega arith) (omega arith) bs q.taken) (m + 2) (omega arith);
-}
+module _ (m k : ℕ) (r : Registers) (bytes : Registers) (a b a' b' after_a after_b : List ℕ) (r' next : Registers) (room_a : m + 2 ≤ length a) (room_b : m + 2 ≤ length b) (low : k < 7)
+    (size_a : length a' ≡ length a) (size_b : length b' ≡ length b)
+    (p : Passed m (k + 1) r bytes a b a' b' r') (q : Passed (m + 1) k r' bytes a' b' after_a after_b next) where
+  module _ (n : ℕ) (payload : List ℕ) (block : ℕ) (has : block < n) (e : m + k ≡ 8 * block + 6) (bs : BlockBytes payload (14 * block) bytes) (s : Passing n payload m a b r) where
+    enter_one : (sh : Shape) (x : Cells) → Sevens sh n → DataOf sh n payload x → Enter sh x m p.cells
+    enter_one sh x sevens d = enter_data sh n payload x sevens d block (m - 8 * block) (k + 1) m bytes p.cells has (omega arith) (omega arith) (omega arith) bs p.taken
+
+    enter_two : (sh : Shape) (x : Cells) → Sevens sh n → DataOf sh n payload x → Enter sh x (m + 1) q.cells
+    enter_two sh x sevens d = enter_data sh n payload x sevens d block (m + 1 - 8 * block) k (m + 1) bytes q.cells has (omega arith) (omega arith) (omega arith) bs q.taken
+
+    one : Passing n payload (m + 1) a' b' r'
+    one = passing_more n payload m (k + 1) r bytes a b a' b' r' s p (omega arith) (omega arith) enter_one (m + 1) (omega arith)
+
+    two : Passing n payload (m + 2) after_a after_b next
+    two = passing_more n payload (m + 1) k r' bytes a' b' after_a after_b next one q (omega arith) (omega arith) enter_two (m + 2) (omega arith)
+
+    two_held : Held n payload m a b → Held n payload (m + 2) after_a after_b
+    two_held h =
+        let first = held_more n payload m (k + 1) r bytes a b a' b' r' s p (omega arith) (omega arith) enter_one (m + 1) (omega arith) h in
+        held_more n payload (m + 1) k r' bytes a' b' after_a after_b next one q (omega arith) (omega arith) enter_two (m + 2) (omega arith) first
+
+  pub two_passed : TwoPassed m k r bytes a b after_a after_b next
+  two_passed = record { passing = two; held = two_held }
 
 -- The eight positions of a block.
-pub block_passed : (n : ℕ) (payload : List ℕ) (block : ℕ) (bytes : Registers) (r r2 r4 r6 r8 : Registers) (a a2 a4 a6 a8 b b2 b4 b6 b8 : List ℕ) → block < n → BlockBytes payload (14 * block) bytes →
-    Passing n payload (8 * block) a b r → TwoPassed (8 * block) 6 r bytes a b a2 b2 r2 → TwoPassed (8 * block + 2) 4 r2 bytes a2 b2 a4 b4 r4 →
-    TwoPassed (8 * block + 4) 2 r4 bytes a4 b4 a6 b6 r6 → TwoPassed (8 * block + 6) 0 r6 bytes a6 b6 a8 b8 r8 → Passing n payload (8 * (block + 1)) a8 b8 r8
-block_passed n payload block bytes r r2 r4 r6 r8 a a2 a4 a6 a8 b b2 b4 b6 b8 has bs s p q u v =
-    let m = 8 * block in
-    let to4 : m + 2 + 2 ≡ m + 4 = omega arith in
-    let to6 : m + 4 + 2 ≡ m + 6 = omega arith in
-    let to8 : m + 6 + 2 ≡ 8 * (block + 1) = omega arith in
-    let s2 = p.passing n payload block has (omega arith) bs s in
-    let s4 = rw to4 at (q.passing n payload block has (omega arith) bs s2) in
-    let s6 = rw to6 at (u.passing n payload block has (omega arith) bs s4) in
-    rw to8 at (v.passing n payload block has (omega arith) bs s6)
+module _ (n : ℕ) (payload : List ℕ) (block : ℕ) (bytes : Registers) (r r2 r4 r6 r8 : Registers) (a a2 a4 a6 a8 b b2 b4 b6 b8 : List ℕ) (has : block < n) (bs : BlockBytes payload (14 * block) bytes)
+    (s : Passing n payload (8 * block) a b r) (p : TwoPassed (8 * block) 6 r bytes a b a2 b2 r2) (q : TwoPassed (8 * block + 2) 4 r2 bytes a2 b2 a4 b4 r4)
+    (u : TwoPassed (8 * block + 4) 2 r4 bytes a4 b4 a6 b6 r6) (v : TwoPassed (8 * block + 6) 0 r6 bytes a6 b6 a8 b8 r8) where
+  abbrev to4 : 8 * block + 2 + 2 ≡ 8 * block + 4
+  to4 = omega arith
+
+  abbrev to6 : 8 * block + 4 + 2 ≡ 8 * block + 6
+  to6 = omega arith
+
+  abbrev to8 : 8 * block + 6 + 2 ≡ 8 * (block + 1)
+  to8 = omega arith
+
+  s2 : Passing n payload (8 * block + 2) a2 b2 r2
+  s2 = p.passing n payload block has (omega arith) bs s
+
+  s4 : Passing n payload (8 * block + 4) a4 b4 r4
+  s4 = rw to4 at (q.passing n payload block has (omega arith) bs s2)
+
+  s6 : Passing n payload (8 * block + 6) a6 b6 r6
+  s6 = rw to6 at (u.passing n payload block has (omega arith) bs s4)
+
+  pub block_passed : Passing n payload (8 * (block + 1)) a8 b8 r8
+  block_passed = rw to8 at (v.passing n payload block has (omega arith) bs s6)
+
+  pub block_held : Held n payload (8 * block) a b → Held n payload (8 * (block + 1)) a8 b8
+  block_held h =
+      let h2 = p.held n payload block has (omega arith) bs s h in
+      let h4 = rw to4 at (q.held n payload block has (omega arith) bs s2 h2) in
+      let h6 = rw to6 at (u.held n payload block has (omega arith) bs s4 h4) in
+      rw to8 at (v.held n payload block has (omega arith) bs s6 h6)
 
 -- Registers of 0.
 none : (s : TrackSet) (i : ℕ) → i < 15 → get_or (of_set s (replicate 15 0) (replicate 15 0)) i 0 ≡ 0
 none A i h = get_or-replicate 15 i 0 0 h
 none B i h = get_or-replicate 15 i 0 0 h
+
+none_taken : CellsOf nothing 0 nothing
+none_taken = record { bits_at = go }
+  where
+    go : (s : TrackSet) → BitsAt (of_set s nothing.a nothing.b) 0 (of_set s nothing.a nothing.b)
+    go A = record { place = λ i h. rw (none A i h) }
+    go B = record { place = λ i h. rw (none B i h) }
 
 -- No position has passed.
 pub passing_none : (n : ℕ) (payload a b : List ℕ) → Passing n payload 0 a b (record { a = replicate 15 0; b = replicate 15 0 })
@@ -108,6 +187,22 @@ passing_none n payload a b = record {
   hold = λ sh x sevens d c. record { register = λ s. record { place = λ k h. rw at_start (none s k (omega (arith, sevens.t1_seven, sevens.t2_seven))) } };
   even = λ sh x sevens d c s q h. absurd (omega arith);
 }
+
+pub held_none : (n : ℕ) (payload a b : List ℕ) → Held n payload 0 a b
+held_none n payload a b = record { held = λ q h. let e : q ≡ 0 = omega arith in rw e (record { registers = nothing; passing = passing_none n payload a b }) }
+
+-- All positions have passed.
+carried : (n : ℕ) (payload a b : List ℕ) (r : Registers) → length a ≡ 8 * n + 15 → length b ≡ 8 * n + 15 → Passing n payload (8 * n + 15) a b r → Carried n payload a b
+carried n payload a b r size_a size_b p = record {
+  bits = bits;
+  even = λ sh x sevens d c s m h.
+      let l : track_length sh ≡ 8 * n + 15 = omega (arith, sevens.t1_seven, sevens.t2_seven, sevens.blocks) in
+      p.even sh x sevens d (rw l at c) s m (omega arith);
+}
+  where
+    bits : (s : TrackSet) → Bits (of_set s a b)
+    bits A = record { bit = every (λ v. v < 2) a (omega arith) (λ i h. p.tracks.bit A i (omega arith)) }
+    bits B = record { bit = every (λ v. v < 2) b (omega arith) (λ i h. p.tracks.bit B i (omega arith)) }
 
 -- ## The tail
 
@@ -128,55 +223,66 @@ module _ (n : ℕ) (xs ys : List ℕ) (size : length xs ≡ 8 * n + 15) (few : l
   put_tail : (k : ℕ) → k < 15 → get_or put (8 * n + k) 0 ≡ get_or ys k 0
   put_tail k h = rw size (put_in xs ys (8 * n) 15 (omega arith) fifteen k h)
 
--- Tracks 0 of the tail are the places.
+-- The tail passes by positions: tracks 0 are the places, and the registers are the places that slide.
 module _ (n : ℕ) (payload : List ℕ) (r : Registers) (a b after_a after_b : List ℕ) (p : Passing n payload (8 * n) a b r)
-    (size_a : length after_a ≡ 8 * n + 15) (size_b : length after_b ≡ 8 * n + 15)
+    (places_a : length r.a ≡ 15) (places_b : length r.b ≡ 15) (size_a : length after_a ≡ 8 * n + 15) (size_b : length after_b ≡ 8 * n + 15)
     (stays : (s : TrackSet) (q : ℕ) → q < 8 * n → get_or (of_set s after_a after_b) q 0 ≡ get_or (of_set s a b) q 0)
     (put : (s : TrackSet) (k : ℕ) → k < 15 → get_or (of_set s after_a after_b) (8 * n + k) 0 ≡ get_or (of_set s r.a r.b) k 0) where
-  bit : (s : TrackSet) (i : ℕ) → i < 8 * n + 15 → get_or (of_set s after_a after_b) i 0 < 2
-  bit s i h = by_cases (dec_lt i (8 * n))
-      (λ l. rw (stays s i l) (p.tracks.bit s i l))
-      (λ l. let e : 8 * n + (i - 8 * n) ≡ i = omega arith in
-      let there : get_or (of_set s after_a after_b) (8 * n + (i - 8 * n)) 0 < 2 = rw (put s (i - 8 * n) (omega arith)) (p.registers.bit s (i - 8 * n) (omega arith)) in
-      rw e at there)
+  -- The heads stand as tracks 0.
+  stands_a : (j : ℕ) → j < 15 → after_a ≡ set after_a (8 * n + j) (get_or (slid j r).a 0 0)
+  stands_a j h = sym (ap (set after_a (8 * n + j)) (slide_head r.a r.b places_a j h ∙ sym (put A j h)) ∙ set-get_or after_a (8 * n + j) 0)
 
-  all_bits : (s : TrackSet) → Bits (of_set s after_a after_b)
-  all_bits A = record { bit = every (λ v. v < 2) after_a (omega arith) (λ i h. bit A i (omega arith)) }
-  all_bits B = record { bit = every (λ v. v < 2) after_b (omega arith) (λ i h. bit B i (omega arith)) }
+  stands_b : (j : ℕ) → j < 15 → after_b ≡ set after_b (8 * n + j) (get_or (slid j r).b 0 0)
+  stands_b j h = sym (ap (set after_b (8 * n + j)) (slide_head r.b r.a places_b j h ∙ sym (put B j h)) ∙ set-get_or after_b (8 * n + j) 0)
 
-  module _ (sh : Shape) (x : Cells) (sevens : Sevens sh n) (d : DataOf sh n payload x) (c : ChecksOf (track_length sh) after_a after_b x) where
-    abbrev whole : track_length sh ≡ 8 * n + 15
-    whole = omega (arith, sevens.t1_seven, sevens.t2_seven, sevens.blocks)
+  one_more : (j : ℕ) → j < 15 → Passed (8 * n + j) 0 (slid j r) nothing after_a after_b after_a after_b (slid (suc j) r)
+  one_more j h = record {
+    track_a = stands_a j h;
+    track_b = stands_b j h;
+    cells = nothing;
+    taken = none_taken;
+    stepped = slid_stepped r places_a places_b j h;
+  }
 
-    before : ChecksOf (8 * n) a b x
-    before = record { cell = λ s q h. c.cell s q (omega (arith, whole)) ∙ stays s q h }
+  -- At each position of the tail they hold what the cells so far add to the diagonals ahead.
+  pub passing_slid : (j : ℕ) → j ≤ 15 → Passing n payload (8 * n + j) after_a after_b (slid j r)
+  passing_slid zero h = simp (add-zero, append-nil) (passing_stays n payload (8 * n) a b after_a after_b r stays p)
+  passing_slid (suc j) h = passing_tail n payload (8 * n + j) 0 (8 * n + suc j) (slid j r) nothing after_a after_b after_a after_b (slid (suc j) r) none
+      (omega arith) (omega arith) (omega arith) (omega arith) (omega arith) (passing_slid j (omega arith)) (one_more j (omega arith))
 
-    even_at : (s : TrackSet) (k : ℕ) → k < 15 → diagonal sh x s (8 * n + k) % 2 ≡ 0
-    even_at s k h = omega (
-      arith,
-      but_check sh x s (8 * n) (8 * n + k) (omega arith) (omega (arith, sevens.t1_seven, sevens.t2_seven))
-          (λ o t q l g f i. d.tail o t q l g (omega (arith, sevens.blocks)) (omega (arith, whole))),
-      c.cell s (8 * n + k) (omega (arith, whole)) ∙ put s k h,
-      ((p.hold sh x sevens d before).register s).place k (omega (arith, sevens.t1_seven, sevens.t2_seven)),
-    )
+-- As the code puts it.
+module _ (n : ℕ) (payload : List ℕ) (r : Registers) (a b ys zs : List ℕ) (size_a : length a ≡ 8 * n + 15) (size_b : length b ≡ 8 * n + 15)
+    (few_a : length ys ≡ length (take (length a - 8 * n) (drop (8 * n) a))) (few_b : length zs ≡ length (take (length b - 8 * n) (drop (8 * n) b))) (is_a : ys ≡ r.a) (is_b : zs ≡ r.b)
+    (p : Passing n payload (8 * n) a b r) where
+  abbrev put_a : List ℕ
+  put_a = put_mid (8 * n) (length a - 8 * n) a ys
 
-    even : (s : TrackSet) (m : ℕ) → m < track_length sh → diagonal sh x s m % 2 ≡ 0
-    even s m h = by_cases (dec_lt m (8 * n))
-        (p.even sh x sevens d before s m)
-        (λ l. let e : 8 * n + (m - 8 * n) ≡ m = omega arith in rw e at (even_at s (m - 8 * n) (omega (arith, whole))))
+  abbrev put_b : List ℕ
+  put_b = put_mid (8 * n) (length b - 8 * n) b zs
 
-  carried : Carried n payload after_a after_b
-  carried = record { bits = all_bits; even = even }
+  stays : (s : TrackSet) (q : ℕ) → q < 8 * n → get_or (of_set s put_a put_b) q 0 ≡ get_or (of_set s a b) q 0
+  stays A = put_stays n a ys size_a few_a
+  stays B = put_stays n b zs size_b few_b
 
-pub tail_passed : (n : ℕ) (payload : List ℕ) (r : Registers) (a b ys zs : List ℕ) → length a ≡ 8 * n + 15 → length b ≡ 8 * n + 15 →
-    length ys ≡ length (take (length a - 8 * n) (drop (8 * n) a)) → length zs ≡ length (take (length b - 8 * n) (drop (8 * n) b)) → ys ≡ r.a → zs ≡ r.b →
-    Passing n payload (8 * n) a b r → Carried n payload (put_mid (8 * n) (length a - 8 * n) a ys) (put_mid (8 * n) (length b - 8 * n) b zs)
-tail_passed n payload r a b ys zs size_a size_b few_a few_b is_a is_b p = carried n payload r a b _ _ p (put_size n a ys size_a few_a) (put_size n b zs size_b few_b) stays tail
-  where
-    stays : (s : TrackSet) (q : ℕ) → q < 8 * n → get_or (of_set s (put n a ys size_a few_a) (put n b zs size_b few_b)) q 0 ≡ get_or (of_set s a b) q 0
-    stays A = put_stays n a ys size_a few_a
-    stays B = put_stays n b zs size_b few_b
+  tail : (s : TrackSet) (k : ℕ) → k < 15 → get_or (of_set s put_a put_b) (8 * n + k) 0 ≡ get_or (of_set s r.a r.b) k 0
+  tail A k h = put_tail n a ys size_a few_a k h ∙ rw is_a
+  tail B k h = put_tail n b zs size_b few_b k h ∙ rw is_b
 
-    tail : (s : TrackSet) (k : ℕ) → k < 15 → get_or (of_set s (put n a ys size_a few_a) (put n b zs size_b few_b)) (8 * n + k) 0 ≡ get_or (of_set s r.a r.b) k 0
-    tail A k h = put_tail n a ys size_a few_a k h ∙ rw is_a
-    tail B k h = put_tail n b zs size_b few_b k h ∙ rw is_b
+  slides : (j : ℕ) → j ≤ 15 → Passing n payload (8 * n + j) put_a put_b (slid j r)
+  slides = passing_slid n payload r a b put_a put_b p (rw is_a at (fifteen n a ys size_a few_a) ∙ omega arith) (rw is_b at (fifteen n b zs size_b few_b) ∙ omega arith)
+      (put_size n a ys size_a few_a) (put_size n b zs size_b few_b) stays tail
+
+  pub tail_passed : Carried n payload (put_mid (8 * n) (length a - 8 * n) a ys) (put_mid (8 * n) (length b - 8 * n) b zs)
+  tail_passed = carried n payload put_a put_b (slid 15 r) (put_size n a ys size_a few_a) (put_size n b zs size_b few_b) (slides 15 (omega arith))
+
+  pub tail_slid : TailHeld n payload (put_mid (8 * n) (length a - 8 * n) a ys) (put_mid (8 * n) (length b - 8 * n) b zs)
+  tail_slid = record { registers = r; passing = slides }
+
+  pub tail_held : Held n payload (8 * n) a b → Held n payload (8 * n + 15) (put_mid (8 * n) (length a - 8 * n) a ys) (put_mid (8 * n) (length b - 8 * n) b zs)
+  tail_held h = record {
+    held = λ q l. by_cases (dec_lt q (8 * n))
+        (λ g. (held_stays n payload (8 * n) a b put_a put_b stays h).held q (omega arith))
+        (λ g. let e : 8 * n + (q - 8 * n) ≡ q = omega arith in
+        let there : HeldAt n payload (8 * n + (q - 8 * n)) put_a put_b = record { registers = slid (q - 8 * n) r; passing = slides (q - 8 * n) (omega arith) } in
+        rw e at there);
+  }

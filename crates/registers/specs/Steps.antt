@@ -1,5 +1,5 @@
 -- What the registers are stepped for: tracks 0 of the record of a payload.
-use Rattle.std.specs.Prelude.{◌≡◌, List, ℕ, ◌+◌, ◌*◌, ◌-◌, ◌%◌, ◌<◌, ◌≤◌, length, get_or, set}
+use Rattle.std.specs.Prelude.{◌≡◌, List, ◌++◌, ℕ, ◌+◌, ◌*◌, ◌-◌, ◌%◌, ◌<◌, ◌≤◌, length, get_or, take, drop, set}
 use Rattle.code.specs.Record.{other, Shape, data_tracks, track_length, Cells, diagonal}
 use Rattle.code.specs.declared.sizes.TrackSet.{TrackSet}
 use Rattle.code.specs.declared.sizes.TrackSet.TheVariants.{A, B}
@@ -75,13 +75,37 @@ pub record Passing (n : ℕ) (payload : List ℕ) (m : ℕ) (a b : List ℕ) (r 
   pub hold : (sh : Shape) (x : Cells) → Sevens sh n → DataOf sh n payload x → ChecksOf m a b x → Hold sh x m r
   pub even : (sh : Shape) (x : Cells) → Sevens sh n → DataOf sh n payload x → ChecksOf m a b x → (s : TrackSet) (q : ℕ) → q < m → diagonal sh x s q % 2 ≡ 0
 
--- Two positions of a block pass, with bits k + 1 and k of its bytes.
+-- There are registers of the first m positions: they hold what the cells so far add to the diagonals ahead.
+pub record HeldAt (n : ℕ) (payload : List ℕ) (m : ℕ) (a b : List ℕ) : Type 0 where
+  pub registers : Registers
+  pub passing : Passing n payload m a b registers
+
+-- So there are for each number of positions up to m.
+pub record Held (n : ℕ) (payload : List ℕ) (m : ℕ) (a b : List ℕ) : Type 0 where
+  pub held : (q : ℕ) → q ≤ m → HeldAt n payload q a b
+
+-- Two positions of a block pass, with bits k + 1 and k of its bytes. The registers that there were so far there still are, and those
+-- of the two.
 pub record TwoPassed (m k : ℕ) (r : Registers) (bytes : Registers) (a b after_a after_b : List ℕ) (next : Registers) : Type 0 where
   pub passing : (n : ℕ) (payload : List ℕ) (block : ℕ) → block < n → m + k ≡ 8 * block + 6 → BlockBytes payload (14 * block) bytes →
       Passing n payload m a b r → Passing n payload (m + 2) after_a after_b next
+  pub held : (n : ℕ) (payload : List ℕ) (block : ℕ) → block < n → m + k ≡ 8 * block + 6 → BlockBytes payload (14 * block) bytes →
+      Passing n payload m a b r → Held n payload m a b → Held n payload (m + 2) after_a after_b
 
 -- What `carry` gives: two stretches of bits that are the tracks 0 of the payload's record, as they make its diagonals even.
 pub record Carried (n : ℕ) (payload a b : List ℕ) : Type 0 where
   pub bits : (s : TrackSet) → Bits (of_set s a b)
   pub even : (sh : Shape) (x : Cells) → Sevens sh n → DataOf sh n payload x → ChecksOf (track_length sh) a b x →
       (s : TrackSet) (m : ℕ) → m < track_length sh → diagonal sh x s m % 2 ≡ 0
+
+-- ## The tail
+
+-- The registers once j positions of the tail have passed, from those before it. No cells enter but tracks 0, so the places slide
+-- by j, and behind them stand the tracks 0 that have entered, which are the other register's first places.
+abbrev pub slid : ℕ → Registers → Registers
+slid j r = record { a = drop j r.a ++ take j r.b; b = drop j r.b ++ take j r.a }
+
+-- At each position of the tail the registers are those before it, slid.
+pub record TailHeld (n : ℕ) (payload a b : List ℕ) : Type 0 where
+  pub registers : Registers
+  pub passing : (j : ℕ) → j ≤ 15 → Passing n payload (8 * n + j) a b (slid j registers)

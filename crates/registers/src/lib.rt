@@ -3,7 +3,7 @@
 
 ghost use Rattle.std.specs.Prelude.{◌≡◌, [], ◌∷◌, ◌+◌, ◌*◌, ◌<◌, ◌≤◌, length};
 ghost use Rattle.registers.specs.Register.{Stepped};
-ghost use Rattle.registers.specs.Steps.{SevenAt, Ordered, BlockBytes, CellsOf, Passed, TwoPassed, Stretches, Carried};
+ghost use Rattle.registers.specs.Steps.{SevenAt, Ordered, BlockBytes, CellsOf, Passed, TwoPassed, Stretches, Held, Carried, TailHeld};
 ghost use Rattle.registers.specs.Places.{Word, Words, Places, Shifted, BitsAt};
 
 // Fifteen places for each set: its register of partial sums, or what enters it.
@@ -164,7 +164,9 @@ impl Registers {
 // Tracks 0 of both sets for a payload: its blocks pass, and then the tail.
 pub fn carry(a: &mut [u8], b: &mut [u8], payload: &[u8], blocks: usize)
     requires { Stretches blocks payload.now a.old b.old }
-    ensures { Carried blocks payload.now a.new b.new }
+    ensures carried { Carried blocks payload.now a.new b.new }
+    ensures held { Held blocks payload.now (8 * blocks + 15) a.new b.new }
+    ensures tail { TailHeld blocks payload.now a.new b.new }
 {
     let mut r = Registers {
         a: [0; 15],
@@ -182,7 +184,7 @@ pub fn carry(a: &mut [u8], b: &mut [u8], payload: &[u8], blocks: usize)
             .pass_two(a, b, m + 6, bytes, 0);
     }
     // In the tail no cells enter but tracks 0, and those behind places that are still to pass. So its tracks 0 are the places as they
-    // stand.
+    // stand. At each position of the tail the registers are these places, slid (`slid`, `TailHeld`).
     let m = 8 * blocks;
     a[m..].copy_from_slice(&r.a);
     b[m..].copy_from_slice(&r.b);

@@ -7,13 +7,13 @@ pub write_checks-requires-clause-image : goal.write_checks-requires-clause-image
 write_checks-requires-clause-image c = filled_image c.args.z _ _ _ c.write_data.ensures
 
 pub write_checks-requires-clause-bits : goal.write_checks-requires-clause-bits
-write_checks-requires-clause-bits c = c.carry.ensures.bits A
+write_checks-requires-clause-bits c = c.carry.ensures.carried.bits A
 
 pub write_checks-requires-clause-tail_zero : goal.write_checks-requires-clause-tail_zero
 write_checks-requires-clause-tail_zero c = filled_tails c.args.z _ _ _ c.write_data.ensures c.requires.sized.positions A
 
 pub write_checks-requires-2-clause-bits : goal.write_checks-requires-2-clause-bits
-write_checks-requires-2-clause-bits c = c.carry.ensures.bits B
+write_checks-requires-2-clause-bits c = c.carry.ensures.carried.bits B
 
 pub write_checks-requires-2-clause-tail_zero : goal.write_checks-requires-2-clause-tail_zero
 write_checks-requires-2-clause-tail_zero c =
@@ -21,4 +21,4 @@ write_checks-requires-2-clause-tail_zero c =
 
 pub returns : goal.returns
 returns c =
-    good_record c.args.z _ _ _ c.write_data.ensures c.requires.is_base _ _ _ _ c.carry.ensures c.write_checks.ensures c.write_checks-2.ensures
+    good_record c.args.z _ _ _ c.write_data.ensures c.requires.is_base _ _ _ _ c.carry.ensures.carried c.write_checks.ensures c.write_checks-2.ensures
