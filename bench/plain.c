@@ -601,6 +601,13 @@ static inline struct registers pass(uint8_t *a, uint8_t *b, struct registers r, 
     return step(r, (struct registers){bits_at(bytes.a, k), bits_at(bytes.b, k)});
 }
 
+/* The fifteen places, one a byte. */
+static inline void put_places(uint8_t *to, struct places r)
+{
+    memcpy(to, &r.low, 8);
+    memcpy(to + 8, &r.high, 7);
+}
+
 /* Tracks 0 of both sets for a payload: its blocks pass, and then the tail. */
 static void carry(uint8_t *restrict a, uint8_t *restrict b, const uint8_t *restrict payload, size_t blocks)
 {
@@ -610,6 +617,11 @@ static void carry(uint8_t *restrict a, uint8_t *restrict b, const uint8_t *restr
         struct registers bytes = {ordered(p, p + DATA), ordered(p + DATA, p)};
         for (size_t j = 0; j < 8; j++)
             r = pass(a + 8 * block + j, b + 8 * block + j, r, bytes, 7 - (unsigned)j);
+    }
+    if (LATEST) { /* no cells enter but tracks 0, behind places that are still to pass: they are the places as they stand */
+        put_places(a + 8 * blocks, r.a);
+        put_places(b + 8 * blocks, r.b);
+        return;
     }
     for (size_t m = 8 * blocks; m < 8 * blocks + LAG; m++)
         r = pass(a + m, b + m, r, none, 0);

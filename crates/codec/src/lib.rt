@@ -75,7 +75,7 @@ fn put_track(out: &mut [u8], g: usize, stretch: &[u8])
     let l = stretch.len();
     let start = g * l;
     let end = start + l;
-    out[start..end].copy_from_slice(stretch);
+    track::copy_into(&mut out[start..end], stretch);
 }
 
 // Adds the data tracks of a set to a stretch. Their tails are 0 and are left out.
