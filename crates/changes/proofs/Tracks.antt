@@ -17,7 +17,7 @@ use Rattle.code.proofs.Places.{row_end}
 use Rattle.code.proofs.Sums.{sum_same}
 use Rattle.track.specs.Track.{differing}
 use Rattle.track.proofs.Parts.{part_at}
-use Rattle.changes.specs.Changes.{HasTrack, changed_at, OnlyMarked, Counted}
+use Rattle.changes.specs.Changes.{HasTrack, changed_at, OnlyMarkedBy, Counted}
 
 -- ## Track numbers
 
@@ -29,9 +29,9 @@ by_number sh P h g l = by_cases (dec_lt g (tracks sh A)) (h A g) (λ n.
     rw e at (h B (g - tracks sh A) (omega arith)))
 
 -- Both images have every track.
-pub has_track : (z : Sizes) (marks : List Bool) (image out : List ℕ) → OnlyMarked z marks image out → (g : ℕ) → g < all_tracks (shape z) →
+pub has_track : {M : Type 0} (counts : M → Bool) (none : M) (z : Sizes) (marks : List M) (image out : List ℕ) → OnlyMarkedBy counts none z marks image out → (g : ℕ) → g < all_tracks (shape z) →
     HasTrack (track_length (shape z)) g image out
-has_track z marks image out o g h = record {
+has_track counts none z marks image out o g h = record {
   room = omega (arith, row_end (track_length (shape z)) g (all_tracks (shape z)) h, o.image_has);
   sizes = o.out_has ∙ sym o.image_has;
 }
@@ -73,13 +73,13 @@ module _ (sh : Shape) (image out : List ℕ) where
   unfolding changed_mask changed_in changed_at
   mask_sum = over_numbers (λ g. mask_bit g (at_number g))
 
-module _ (z : Sizes) (marks : List Bool) (image out : List ℕ) (only : OnlyMarked z marks image out) where
+module _ {M : Type 0} (counts : M → Bool) (none : M) (z : Sizes) (marks : List M) (image out : List ℕ) (only : OnlyMarkedBy counts none z marks image out) where
   abbrev l : ℕ
   l = track_length (shape z)
 
   -- A track that is not marked has no changed cell.
-  pub unmarked_unchanged : (g : ℕ) → g < all_tracks (shape z) → get_or marks g false ≡ false → changed_at l image out g ≡ 0
-  unmarked_unchanged = by_number (shape z) (λ g. get_or marks g false ≡ false → changed_at l image out g ≡ 0)
+  pub unmarked_unchanged : (g : ℕ) → g < all_tracks (shape z) → counts (get_or marks g none) ≡ false → changed_at l image out g ≡ 0
+  unmarked_unchanged = by_number (shape z) (λ g. counts (get_or marks g none) ≡ false → changed_at l image out g ≡ 0)
       (λ s t h d. sym (changed_number (shape z) image out s t) ∙ unchanged_in (shape z) _ _ s t (λ m b. only.agree.cell s t m h b d))
 
 -- ## Track after track
@@ -102,7 +102,7 @@ bit_small g c = go (eqb c 0)
     go true = omega arith
     go false = omega arith
 
-module _ (z : Sizes) (marks : List Bool) (image out : List ℕ) (only : OnlyMarked z marks image out) (l : ℕ) (l_is : l ≡ track_length (shape z)) (g : ℕ) (within : g < all_tracks (shape z)) where
+module _ {M : Type 0} (counts : M → Bool) (none : M) (z : Sizes) (marks : List M) (image out : List ℕ) (only : OnlyMarkedBy counts none z marks image out) (l : ℕ) (l_is : l ≡ track_length (shape z)) (g : ℕ) (within : g < all_tracks (shape z)) where
   -- A track that is marked and has c changed cells.
   pub few_changed : (c : ℕ) → c ≡ changed_at l image out g → c ≤ 2063
   few_changed c e =
@@ -120,9 +120,9 @@ module _ (z : Sizes) (marks : List Bool) (image out : List ℕ) (only : OnlyMark
   })
 
   -- One that is not marked has none.
-  pub counting_same : (mask count : ℕ) → get_or marks g false ≡ false → Counting l image out g mask count → Counting l image out (g + 1) mask count
+  pub counting_same : (mask count : ℕ) → counts (get_or marks g none) ≡ false → Counting l image out g mask count → Counting l image out (g + 1) mask count
   counting_same mask count unmarked h =
-      rw (add-zero mask, add-zero count) at (counting_more mask count 0 0 h (sym (rw l_is (unmarked_unchanged z marks image out only g within unmarked))) refl)
+      rw (add-zero mask, add-zero count) at (counting_more mask count 0 0 h (sym (rw l_is (unmarked_unchanged counts none z marks image out only g within unmarked))) refl)
 
 -- All tracks.
 pub counting_all : (z : Sizes) (image out : List ℕ) (l g mask count : ℕ) → l ≡ track_length (shape z) → g ≡ all_tracks (shape z) → Counting l image out g mask count →

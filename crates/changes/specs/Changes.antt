@@ -1,5 +1,5 @@
 -- What is said of changed cells.
-use Rattle.std.specs.Prelude.{◌≡◌, Bool, List, ℕ, ◌+◌, ◌*◌, ◌≤◌, length, get_or}
+use Rattle.std.specs.Prelude.{◌≡◌, Bool, false, List, ℕ, ◌+◌, ◌*◌, ◌≤◌, length, get_or}
 use Rattle.code.specs.declared.sizes.TrackSet.{TrackSet}
 use Rattle.code.specs.declared.sizes.TrackSet.TheVariants.{A, B}
 use Rattle.code.specs.Record.{Shape, sum}
@@ -9,7 +9,7 @@ use Rattle.code.specs.Calls.{differ, changed_cells, changed_mask}
 use Rattle.code.specs.Reach.{Extra}
 use Rattle.code.specs.Sizes.{shape}
 use Rattle.code.specs.declared.sizes.Sizes.{Sizes}
-use Rattle.solver.specs.Solver.{marked}
+use Rattle.solver.specs.Solver.{marked_by}
 use Rattle.changes.specs.declared.Changes.{Changes}
 
 -- Two images have track number g, of l cells.
@@ -22,11 +22,15 @@ unfoldable pub changed_at : ℕ → List ℕ → List ℕ → ℕ → ℕ
 changed_at l image out g = sum l (λ m. differ (get_or image (g * l + m) 0) (get_or out (g * l + m) 0))
 
 -- An image and an output that differ in marked tracks at the most.
-pub record OnlyMarked (z : Sizes) (marks : List Bool) (image out : List ℕ) : Type 0 where
+pub record OnlyMarkedBy {M : Type 0} (counts : M → Bool) (none : M) (z : Sizes) (marks : List M) (image out : List ℕ) : Type 0 where
   pub marks_size : all_tracks (shape z) ≤ length marks
   pub image_has : length image ≡ image_size (shape z)
   pub out_has : length out ≡ image_size (shape z)
-  pub agree : AgreeOff (shape z) (whole (marked (shape z) marks)) (cells (shape z) image) (cells (shape z) out)
+  pub agree : AgreeOff (shape z) (whole (marked_by counts none (shape z) marks)) (cells (shape z) image) (cells (shape z) out)
+
+-- By marks that are truth values.
+abbrev pub OnlyMarked : Sizes → List Bool → List ℕ → List ℕ → Type 0
+OnlyMarked = OnlyMarkedBy (λ m. m) false
 
 -- The changed mask and cells.
 pub record Counted (sh : Shape) (image out : List ℕ) (r : Changes) : Type 0 where

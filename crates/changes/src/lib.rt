@@ -6,9 +6,10 @@ ghost use Rattle.code.specs.Image.{cells};
 ghost use Rattle.code.specs.Calls.{mask_bit, mended};
 ghost use Rattle.code.specs.Answers.{extra_of, result_of};
 ghost use Rattle.code.specs.Sizes.{shape};
-ghost use Rattle.changes.specs.Changes.{HasTrack, changed_at, OnlyMarked, Counted, names};
+ghost use Rattle.changes.specs.Changes.{HasTrack, changed_at, OnlyMarkedBy, Counted, names};
 
 use code::{Answer, Sizes};
+use solver::Mark;
 
 // The changed mask and the number of changed cells.
 #[derive(Clone, Copy)]
@@ -36,15 +37,15 @@ fn mask_bit(g: usize, changed: usize) -> u32
 }
 
 // The changed mask and cells, of which only marked tracks have any.
-pub fn count_changes(z: Sizes, marks: &[bool], image: &[u8], out: &[u8]) -> Changes
-    requires { OnlyMarked z marks.now image.now out.now }
+pub fn count_changes<M: Mark>(z: Sizes, marks: &[M], image: &[u8], out: &[u8]) -> Changes
+    requires { OnlyMarkedBy M.counts M.none z marks.now image.now out.now }
     ensures { Counted (shape z) image.now out.now result }
 {
     let l = z.track_length();
     let mut mask: u32 = 0;
     let mut cells: u32 = 0;
     for g in 0..z.all_tracks() {
-        if marks[g] {
+        if marks[g].is_set() {
             let changed = count_track(image, out, l, g);
             cells += changed as u32;
             mask += mask_bit(g, changed);
@@ -54,15 +55,15 @@ pub fn count_changes(z: Sizes, marks: &[bool], image: &[u8], out: &[u8]) -> Chan
 }
 
 // What repair and tracing answer with 0, where marked tracks alone were changed: what was, and these extras.
-pub fn answer_of(
+pub fn answer_of<M: Mark>(
     z: Sizes,
-    marks: &[bool],
+    marks: &[M],
     image: &[u8],
     out: &[u8],
     a: Option<u32>,
     b: Option<u32>,
 ) -> Answer
-    requires { OnlyMarked z marks.now image.now out.now }
+    requires { OnlyMarkedBy M.counts M.none z marks.now image.now out.now }
     ensures { result_of (Ok result) ≡ mended (shape z) (cells (shape z) image.now) (cells (shape z) out.now) (names (extra_of a) (extra_of b)) }
 {
     let Changes { mask, cells } = count_changes(z, marks, image, out);

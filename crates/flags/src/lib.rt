@@ -7,10 +7,11 @@ ghost use Rattle.code.specs.Reach.{flags_code};
 ghost use Rattle.code.specs.Sizes.{shape};
 ghost use Rattle.track.specs.Track.{Readings};
 ghost use Rattle.checks.specs.Lost.{LostTold};
-ghost use Rattle.solver.specs.Solver.{marked};
+ghost use Rattle.solver.specs.Solver.{marked_by};
 ghost use Rattle.flags.specs.Marks.{Marks, lost_at, ReadImage, CallMarks};
 
 use code::{Sizes, TrackSet};
+use solver::Mark;
 
 // The marks of a flag word: one a track number.
 pub fn marks_of(flags: u32) -> [bool; 18]
@@ -51,17 +52,23 @@ pub fn call_marks(z: Sizes, flags: u32, image: &[u8], lost: bool) -> [bool; 18]
     marks
 }
 
-// How many tracks are marked.
-fn count_marks(marks: &[bool]) -> usize
-    ensures { result ≡ count_by (λ mark. mark) marks.now }
+// How many tracks are marked. By `filter` and `count` a short record that is refused with 6 took 55 ns, and 41 so.
+fn count_marks<M: Mark>(marks: &[M]) -> usize
+    ensures { result ≡ count_by M.counts marks.now }
 {
-    marks.iter().filter(|mark| **mark).count()
+    let mut count: usize = 0;
+    for t in 0..marks.len() {
+        if marks[t].is_set() {
+            count += 1;
+        }
+    }
+    count
 }
 
 // The code of the marked tracks.
-pub fn code_of(z: Sizes, marks: &[bool]) -> u8
+pub fn code_of<M: Mark>(z: Sizes, marks: &[M]) -> u8
     requires { all_tracks (shape z) ≤ length marks.now }
-    ensures { result ≡ flags_code (shape z) (marked (shape z) marks.now) }
+    ensures { result ≡ flags_code (shape z) (marked_by M.counts M.none (shape z) marks.now) }
 {
     let a = z.tracks(TrackSet::A);
     code::reach_code(

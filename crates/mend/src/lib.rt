@@ -9,7 +9,7 @@ ghost use Rattle.code.specs.Sizes.{shape};
 ghost use Rattle.code.proofs.OneTrack.{put};
 ghost use Rattle.track.specs.Track.{Bits};
 ghost use Rattle.syndrome.specs.Syndrome.{Image};
-ghost use Rattle.solver.specs.Solver.{marked};
+ghost use Rattle.solver.specs.Solver.{marked_by};
 ghost use Rattle.plans.specs.Plans.{room, Sized};
 ghost use Rattle.forms.specs.Found.{errors};
 ghost use Rattle.errors.specs.Rows.{cell, Rows};
@@ -28,6 +28,7 @@ ghost use Rattle.mend.specs.Mend.{
 
 use code::{Sizes, TrackSet};
 use plans::{Below, Form, Pivot, Track};
+use solver::Mark;
 
 // ---- Sums
 
@@ -247,14 +248,14 @@ impl Need {
 }
 
 // Clears the tails of set s that rule 4 makes 0. Tells what those without a mark need.
-pub fn clear_tails(z: Sizes, marks: &[bool], out: &mut [u8], s: TrackSet) -> Need
+pub fn clear_tails<M: Mark>(z: Sizes, marks: &[M], out: &mut [u8], s: TrackSet) -> Need
     requires z_in_bounds { all_tracks (shape z) ≤ length marks.now }
     requires image { Image (shape z) out.old }
-    ensures { TailsCleared z s (marked (shape z) marks.now) (tail_tracks (shape z) s) out.old out.new result }
+    ensures { TailsCleared z s (marked_by M.counts M.none (shape z) marks.now) (tail_tracks (shape z) s) out.old out.new result }
 {
     let mut need = Need::Nothing;
     for t in 1..z.tail_tracks(s) {
-        let marked = marks[z.track_number(s, t)];
+        let marked = marks[z.track_number(s, t)].is_set();
         if clear_tail(out, z, s, t) && !marked {
             need = need.and(t);
         }

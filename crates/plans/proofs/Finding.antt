@@ -14,7 +14,7 @@ use Rattle.code.specs.Record.{Shape, tracks}
 use Rattle.code.specs.Image.{track_number}
 use Rattle.code.specs.Flags.{TrackFlags, bit, flag_count}
 use Rattle.code.proofs.Sums.{sum_le}
-use Rattle.solver.specs.Solver.{marked}
+use Rattle.solver.specs.Solver.{marked_by}
 use Rattle.solver.proofs.Sets.{number_from}
 use Rattle.plans.specs.declared.Three.{Three}
 use Rattle.plans.specs.Plans.{ThreeOf, Inserted}
@@ -68,18 +68,22 @@ pub find_all : (sh : Shape) (f : TrackFlags) (s : TrackSet) (t : ℕ) (x : Three
 find_all sh f s t x h o = three_same sh s (below t f) f x (λ u l. sym (below_yes t f s u (omega arith))) o
 
 -- Track t is seen, by its mark.
-module _ (sh : Shape) (marks : List Bool) (s : TrackSet) (first t : ℕ) (x : Three) (start : track_number sh s 0 ≡ first) (o : ThreeOf sh (below t (marked sh marks)) s x) where
-  mark_at : get_or marks (first + t) false ≡ marked sh marks s t
-  mark_at = ap (λ (k : ℕ). get_or marks k false) (omega (arith, number_from sh s t))
+module _ {M : Type 0} (counts : M → Bool) (none : M) (sh : Shape) (marks : List M) (s : TrackSet) (first t : ℕ) (x : Three) (start : track_number sh s 0 ≡ first)
+    (o : ThreeOf sh (below t (marked_by counts none sh marks)) s x) where
+  abbrev f : TrackFlags
+  f = marked_by counts none sh marks
 
-  pub find_same : get_or marks (first + t) false ≡ false → ThreeOf sh (below (t + 1) (marked sh marks)) s x
-  find_same n = three_same sh s _ _ x (λ u l. below_next t (marked sh marks) s u (λ e. ap (marked sh marks s) e ∙ sym mark_at ∙ n)) o
+  mark_at : counts (get_or marks (first + t) none) ≡ f s t
+  mark_at = ap (λ (k : ℕ). counts (get_or marks k none)) (omega (arith, number_from sh s t))
 
-  pub find_more : (r : Three) → get_or marks (first + t) false ≡ true → t < tracks sh s → flag_count sh (marked sh marks) s ≤ 3 → Inserted x (Some t) r →
-      ThreeOf sh (below (t + 1) (marked sh marks)) s r
+  pub find_same : counts (get_or marks (first + t) none) ≡ false → ThreeOf sh (below (t + 1) f) s x
+  find_same n = three_same sh s _ _ x (λ u l. below_next t f s u (λ e. ap (f s) e ∙ sym mark_at ∙ n)) o
+
+  pub find_more : (r : Three) → counts (get_or marks (first + t) none) ≡ true → t < tracks sh s → flag_count sh f s ≤ 3 → Inserted x (Some t) r →
+      ThreeOf sh (below (t + 1) f) s r
   find_more r e l few i = i.is sh s _ _ (record {
     within = omega arith;
-    was = λ u d. below_no t (marked sh marks) s u (omega arith);
-    here = λ u d. let h : u ≡ t = omega arith in below_yes (t + 1) (marked sh marks) s u (omega arith) ∙ ap (marked sh marks s) h ∙ sym mark_at ∙ e;
-    there = λ u k d. below_next t (marked sh marks) s u (λ h. absurd (omega arith));
-  }) (omega (arith, below_few sh (t + 1) (marked sh marks) s)) o
+    was = λ u d. below_no t f s u (omega arith);
+    here = λ u d. let h : u ≡ t = omega arith in below_yes (t + 1) f s u (omega arith) ∙ ap (f s) h ∙ sym mark_at ∙ e;
+    there = λ u k d. below_next t f s u (λ h. absurd (omega arith));
+  }) (omega (arith, below_few sh (t + 1) f s)) o

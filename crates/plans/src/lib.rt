@@ -5,7 +5,7 @@ ghost use Rattle.std.specs.Prelude.{◌≡◌, ◌≤◌, length};
 ghost use Rattle.code.specs.Image.{all_tracks};
 ghost use Rattle.code.specs.Flags.{flag_count};
 ghost use Rattle.code.specs.Sizes.{shape};
-ghost use Rattle.solver.specs.Solver.{marked};
+ghost use Rattle.solver.specs.Solver.{marked_by};
 ghost use Rattle.plans.specs.Plans.{
   place,
   ThreeOf,
@@ -17,6 +17,7 @@ ghost use Rattle.plans.specs.Plans.{
 };
 
 use code::{Sizes, TrackSet};
+use solver::Mark;
 
 // The flagged tracks of a set, three at the most, the highest first.
 #[derive(Clone, Copy)]
@@ -55,10 +56,10 @@ pub fn insert(x: Three, e: Option<usize>) -> Three
 }
 
 // The marked tracks of a set, three at the most.
-pub fn find_three(marks: &[bool], z: Sizes, s: TrackSet) -> Three
+pub fn find_three<M: Mark>(marks: &[M], z: Sizes, s: TrackSet) -> Three
     requires z_in_bounds { all_tracks (shape z) ≤ length marks.now }
-    requires s_bound_2 { flag_count (shape z) (marked (shape z) marks.now) s ≤ 3 }
-    ensures { ThreeOf (shape z) (marked (shape z) marks.now) s result }
+    requires s_bound_2 { flag_count (shape z) (marked_by M.counts M.none (shape z) marks.now) s ≤ 3 }
+    ensures { ThreeOf (shape z) (marked_by M.counts M.none (shape z) marks.now) s result }
 {
     let first = z.track_number(s, 0);
     let mut x = Three {
@@ -67,7 +68,7 @@ pub fn find_three(marks: &[bool], z: Sizes, s: TrackSet) -> Three
         low: None,
     };
     for t in 0..z.tracks(s) {
-        if marks[first + t] {
+        if marks[first + t].is_set() {
             x = insert(x, Some(t));
         }
     }

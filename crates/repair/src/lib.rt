@@ -14,7 +14,7 @@ ghost use Rattle.track.specs.Track.{known, Copied};
 ghost use Rattle.checks.specs.First.{FirstAnswer};
 ghost use Rattle.checks.specs.Lost.{LostTold};
 ghost use Rattle.syndrome.specs.Syndrome.{Image};
-ghost use Rattle.solver.specs.Solver.{marked};
+ghost use Rattle.solver.specs.Solver.{marked, marked_by};
 ghost use Rattle.flags.specs.Marks.{ReadImage};
 ghost use Rattle.plans.specs.Plans.{Sized};
 ghost use Rattle.errors.specs.Rows.{Rows};
@@ -23,6 +23,7 @@ ghost use Rattle.repair.specs.Steps.{Given, Prepared, MadeGood};
 use code::{Answer, Refusal, Sizes, TrackSet};
 use mend::Need;
 use plans::Form;
+use solver::Mark;
 
 // ---- Checks
 
@@ -49,12 +50,18 @@ pub struct Needs {
 }
 
 // Makes a working copy of the image, whose tails are 0 where rule 4 makes them so, and loads its sums.
-pub fn prepare(z: Sizes, marks: &[bool], image: &[u8], out: &mut [u8], rows: &mut [u64]) -> Needs
+pub fn prepare<M: Mark>(
+    z: Sizes,
+    marks: &[M],
+    image: &[u8],
+    out: &mut [u8],
+    rows: &mut [u64],
+) -> Needs
     requires read_image { ReadImage (shape z) image.now }
     requires out_len { length out.old ≡ image_size (shape z) }
     requires z_in_bounds { all_tracks (shape z) ≤ length marks.now }
     requires rows { Rows 4 rows.old }
-    ensures { Prepared z (marked (shape z) marks.now) (known image.now) out.new rows.new result }
+    ensures { Prepared z (marked_by M.counts M.none (shape z) marks.now) (known image.now) out.new rows.new result }
 {
     track::copy_known(out, image);
     let a = mend::clear_tails(z, marks, out, TrackSet::A);

@@ -1,4 +1,5 @@
 pub mod Sets
+pub mod Marks
 pub mod Plans
 pub mod Settling
 pub mod Stepping

@@ -16,7 +16,7 @@ use Rattle.code.specs.Flags.{TrackFlags, bit, flag_count}
 use Rattle.code.proofs.Patterns.{but_for}
 use Rattle.code.proofs.Sums.{sum_same}
 use Rattle.solver.specs.declared.Plan.{Plan}
-use Rattle.solver.specs.Solver.{marked, Named, is_low, is_high, is_last, Planned, Fills}
+use Rattle.solver.specs.Solver.{marked_by, Named, is_low, is_high, is_last, Planned, Fills}
 use Rattle.solver.proofs.Sets.{number_from, same_track, no_track}
 
 -- The marks below n.
@@ -80,20 +80,20 @@ pub newest_by : {g h : ℕ → Bool} {t : ℕ} {i j k : Option ℕ} → ((u : �
 newest_by {t = t} {i = i} {j = j} {k = k} e n = subst (λ (g : ℕ → Bool). Newest g t i j k) (λ v u. e u v) n
 
 -- The marks of a set in a list, where its track numbers begin at `first`.
-module _ (sh : Shape) (marks : List Bool) (s : TrackSet) (first : ℕ) (e : first ≡ track_number sh s 0) where
+module _ {M : Type 0} (counts : M → Bool) (none : M) (sh : Shape) (marks : List M) (s : TrackSet) (first : ℕ) (e : first ≡ track_number sh s 0) where
   abbrev pub read : ℕ → Bool
-  read u = get_or marks (first + u) false
+  read u = counts (get_or marks (first + u) none)
 
-  marked_from : (u : ℕ) → read u ≡ marked sh marks s u
-  marked_from u = ap (λ (k : ℕ). get_or marks k false) (omega (arith, e, number_from sh s u))
+  marked_from : (u : ℕ) → read u ≡ marked_by counts none sh marks s u
+  marked_from u = ap (λ (k : ℕ). counts (get_or marks k none)) (omega (arith, e, number_from sh s u))
 
   -- There are three at the most.
-  pub three_at_most : flag_count sh (marked sh marks) s ≤ 3 → (t : ℕ) → t < tracks sh s → count (suc t) read ≤ 3
+  pub three_at_most : flag_count sh (marked_by counts none sh marks) s ≤ 3 → (t : ℕ) → t < tracks sh s → count (suc t) read ≤ 3
   unfolding flag_count
   three_at_most h t l = omega (arith, count_le read (suc t) (tracks sh s) (omega arith), sum_same (tracks sh s) _ _ (λ u h. ap bit (marked_from u)))
 
   -- The newest of all of them.
-  pub newest_of : {n : ℕ} {i j k : Option ℕ} → n ≡ tracks sh s → Newest read n i j k → Newest (marked sh marks s) (tracks sh s) i j k
+  pub newest_of : {n : ℕ} {i j k : Option ℕ} → n ≡ tracks sh s → Newest read n i j k → Newest (marked_by counts none sh marks s) (tracks sh s) i j k
   newest_of d n = newest_by marked_from (rw d at n)
 
 -- The plans of all tracks' marks.

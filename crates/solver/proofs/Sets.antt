@@ -1,7 +1,7 @@
 -- The tracks of a set.
 use mathlib.Core.Path.{◌≡◌, refl, sym, ap, ◌∙◌}
 use mathlib.Core.Bool.{true, false, true≢false}
-use Prim.Native.Nat.{ℕ, ◌+◌}
+use Prim.Native.Nat.{ℕ, ◌+◌, ◌<◌, ◌≤◌}
 use native.Mathlib.Decide.{ℕ_discrete}
 use native.Mathlib.Omega.{arith}
 use borrow.Author.Tests.{eqb-true, eq-eqb}
@@ -10,13 +10,18 @@ use Rattle.std.specs.Option.{option_eq}
 use Rattle.std.specs.Prelude.{Option, Some, None}
 use Rattle.code.specs.declared.sizes.TrackSet.{TrackSet}
 use Rattle.code.specs.declared.sizes.TrackSet.TheVariants.{A, B}
-use Rattle.code.specs.Record.{Shape}
-use Rattle.code.specs.Image.{track_number}
+use Rattle.code.specs.Record.{Shape, tracks}
+use Rattle.code.specs.Image.{track_number, all_tracks}
+use Rattle.code.proofs.Places.{number_lt}
 
 -- A set's track numbers are in a row.
 pub number_from : (sh : Shape) (s : TrackSet) (t : ℕ) → track_number sh s t ≡ track_number sh s 0 + t
 number_from sh A t = omega arith
 number_from sh B t = omega arith
+
+-- Those of a set whose first one is `first` are within n, where all tracks are.
+pub number_within : (sh : Shape) (s : TrackSet) (first t n : ℕ) → first ≡ track_number sh s 0 → t < tracks sh s → all_tracks sh ≤ n → first + t < n
+number_within sh s first t n e l h = omega (arith, number_from sh s t, number_lt sh s t l)
 
 -- There is one track, at the most.
 pub same_track : {track : Option ℕ} {t u : ℕ} → track ≡ Some t → track ≡ Some u → t ≡ u

@@ -35,7 +35,7 @@ still_known {s = s} {m = m} b w k = record {
   before = λ c t q l h. w.cell c t q l (omega arith) (k.before c t q l h);
   rest = λ t l n. w.cell s t m l b (k.rest t l n);
   clear = λ d c t q l e u v. w.cell c t q l (omega arith) (k.clear d c t q l e u v);
-  across = λ d i h t q l u v. w.cell (other s) t q l (omega arith) (k.across d i h t q l u v);
+  across = λ d i h j t q l u v. w.cell (other s) t q l (omega arith) (k.across d i h j t q l u v);
 }
 
 -- ## One cell by one rule
@@ -43,12 +43,12 @@ still_known {s = s} {m = m} b w k = record {
 module _ (sh : Shape) (f : TrackFlags) (y : Cells) (gy : Good sh y) (s : TrackSet) (p : Plan) (fits : Fits sh f s p) (m : ℕ) where
   -- The lowest flagged track, by its own diagonal.
   low_cell : (x : Cells) → m < sh.positions → Known sh f s p y x m → (i : ℕ) → p.low ≡ Some i → i < tracks sh s → y s i m ≡ (x s i m + diagonal sh x s (m + i)) % 2
-  low_cell x b r i e l = lowest_cell sh x y gy m r.before b (λ c t. f c t ≡ false) (r.clear b) s i (fits.low_data i e) (fits.below i e)
+  low_cell x b r i e l = lowest_cell sh x y gy m r.before b (λ c t. f c t ≡ false) (r.clear b) s i (fits.low_data i e l) (fits.below i e l)
 
   -- The highest flagged data track, by the other set's.
   high_cell : (x : Cells) → m < sh.positions → Known sh f s p y x m → (k : ℕ) → p.high ≡ Some k → k < tracks sh s →
       y s k m ≡ (x s k m + diagonal sh x (other s) (m + (lag sh - k))) % 2
-  high_cell x b r k e l = let d = fits.high_data k e in go s k d.0 d.1 (fits.above k e) (r.across b k e)
+  high_cell x b r k e l = let d = fits.high_data k e l in go s k d.0 d.1 (fits.above k e l) (r.across b k e l)
     where
       go : (c : TrackSet) (k : ℕ) → 0 < k → k ≤ data_tracks sh c → ((t : ℕ) → k < t → t ≤ data_tracks sh c → f c t ≡ false) →
           ((t q : ℕ) → t < tracks sh (other c) → m ≤ q → q < m + lag sh → x (other c) t q ≡ y (other c) t q) →
@@ -118,9 +118,9 @@ pub stepped_tail : {z : Sizes} {s : TrackSet} {p : Plan} {m : ℕ} {o₀ o₁ o�
     ByTail z s p.low m o₀ o₁ n₁ → ByTail z s p.high m o₁ o₂ n₂ → ByTail z s p.last m o₂ o₃ n₃ → Stepped z s p m o₀ o₃ n₃
 stepped_tail {z} {s} {p} {m} {o₀} {o₁} {o₂} {o₃} closed k b v w u = stepped v w u (λ f y fits good known.
     let sh : Shape = shape z in
-    let v' = right_cell y v (λ t d l. tail_cell z (cells sh o₀) y closed good s t m k b known.before l (λ e. absurd (omega (arith, fits.low_data t d)))) in
+    let v' = right_cell y v (λ t d l. tail_cell z (cells sh o₀) y closed good s t m k b known.before l (λ e. absurd (omega (arith, fits.low_data t d l)))) in
     let known₁ = still_known b v'.still known in
-    let w' = right_cell y w (λ t d l. tail_cell z (cells sh o₁) y closed good s t m k b known₁.before l (λ e. absurd (omega (arith, (fits.high_data t d).1)))) in
+    let w' = right_cell y w (λ t d l. tail_cell z (cells sh o₁) y closed good s t m k b known₁.before l (λ e. absurd (omega (arith, (fits.high_data t d l).1)))) in
     let known₂ = still_known b w'.still known₁ in
     let e = rest_cells sh f y s p m (cells sh o₀) (cells sh o₁) (cells sh o₂) b known v' w' in
     all_cells sh f y s p m (cells sh o₀) (cells sh o₁) (cells sh o₂) b known v' w' (cells sh o₃)

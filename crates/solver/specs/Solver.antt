@@ -7,7 +7,11 @@ use Rattle.code.specs.Image.{track_number}
 use Rattle.code.specs.Flags.{TrackFlags, flag_count}
 use Rattle.solver.specs.declared.Plan.{Plan}
 
--- Flags as a list of marks, one a track number.
+-- Flags as a list of marks, one a track number: `counts` says which mark a track, and `none` stands past the list's end.
+abbrev pub marked_by : {M : Type 0} → (M → Bool) → M → Shape → List M → TrackFlags
+marked_by counts none sh marks s t = counts (get_or marks (track_number sh s t) none)
+
+-- Marks that are truth values.
 abbrev pub marked : Shape → List Bool → TrackFlags
 marked sh marks s t = get_or marks (track_number sh s t) false
 

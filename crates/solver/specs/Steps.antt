@@ -57,12 +57,12 @@ pub record Made (sh : Shape) (y x x' : Cells) (s : TrackSet) (m : ℕ) : Type 0 
 
 -- ## Steps
 
--- No track below a plan's lowest is flagged, and no data track above its highest.
+-- No track below a plan's lowest is flagged, and no data track above its highest. A number past the set's tracks stands for none.
 pub record Fits (sh : Shape) (f : TrackFlags) (s : TrackSet) (p : Plan) : Type 0 where
-  pub low_data : (i : ℕ) → p.low ≡ Some i → i ≤ data_tracks sh s
-  pub below : (i : ℕ) → p.low ≡ Some i → (t : ℕ) → t < i → f s t ≡ false
-  pub high_data : (k : ℕ) → p.high ≡ Some k → (0 < k) × (k ≤ data_tracks sh s)
-  pub above : (k : ℕ) → p.high ≡ Some k → (t : ℕ) → k < t → t ≤ data_tracks sh s → f s t ≡ false
+  pub low_data : (i : ℕ) → p.low ≡ Some i → i < tracks sh s → i ≤ data_tracks sh s
+  pub below : (i : ℕ) → p.low ≡ Some i → i < tracks sh s → (t : ℕ) → t < i → f s t ≡ false
+  pub high_data : (k : ℕ) → p.high ≡ Some k → k < tracks sh s → (0 < k) × (k ≤ data_tracks sh s)
+  pub above : (k : ℕ) → p.high ≡ Some k → k < tracks sh s → (t : ℕ) → k < t → t ≤ data_tracks sh s → f s t ≡ false
 
 -- What a step at m goes by. x agrees with y before m and, at m, on the set's tracks that the plan does not name. At a position of the data
 -- they also agree from m up to a lag on: on the tracks that f does not flag and, beside a highest track, on the other set.
@@ -70,7 +70,7 @@ pub record Known (sh : Shape) (f : TrackFlags) (s : TrackSet) (p : Plan) (y x : 
   pub before : (c : TrackSet) (t q : ℕ) → t < tracks sh c → q < m → x c t q ≡ y c t q
   pub rest : (t : ℕ) → t < tracks sh s → (Named p t → ⊥) → x s t m ≡ y s t m
   pub clear : m < sh.positions → (c : TrackSet) (t q : ℕ) → t < tracks sh c → f c t ≡ false → m ≤ q → q < m + lag sh → x c t q ≡ y c t q
-  pub across : m < sh.positions → (k : ℕ) → p.high ≡ Some k → (t q : ℕ) → t < tracks sh (other s) → m ≤ q → q < m + lag sh → x (other s) t q ≡ y (other s) t q
+  pub across : m < sh.positions → (k : ℕ) → p.high ≡ Some k → k < tracks sh s → (t q : ℕ) → t < tracks sh (other s) → m ≤ q → q < m + lag sh → x (other s) t q ≡ y (other s) t q
 
 -- One set is solved at m. Only the cells of the plan's tracks at m are changed.
 pub record Stepped (z : Sizes) (s : TrackSet) (p : Plan) (m : ℕ) (out after syn : List ℕ) : Type 0 where

@@ -7,11 +7,14 @@ ghost use Rattle.code.specs.Image.{all_tracks};
 ghost use Rattle.code.specs.Flags.{flag_count};
 ghost use Rattle.code.specs.Sizes.{shape};
 ghost use Rattle.syndrome.specs.Syndrome.{Kept};
-ghost use Rattle.solver.specs.Solver.{marked, HasTracks, Planned, Fills, Single};
+ghost use Rattle.solver.specs.Solver.{marked_by, HasTracks, Planned, Fills, Single};
 ghost use Rattle.solver.specs.Steps.{Settled, By, ByTail, TailBit, Stepped, Ahead};
 ghost use Rattle.solver.specs.Ways.{track_of, tracks_of, read_sum, IsWay, WayOf, WaysOf};
 
+mod mark;
+
 use code::{Sizes, TrackSet};
+pub use mark::Mark;
 use syndrome::Line;
 
 // A copy and its syndromes, `out` and `syn`, stay two slices, as `syndrome` takes them: a struct of both would be built anew for each call.
@@ -25,11 +28,11 @@ pub struct Plan {
 }
 
 // The plan for the marked tracks of a set, three at the most.
-pub fn make_plan(marks: &[bool], z: Sizes, s: TrackSet) -> Plan
+pub fn make_plan<M: Mark>(marks: &[M], z: Sizes, s: TrackSet) -> Plan
     requires z_in_bounds { all_tracks (shape z) ≤ length marks.now }
-    requires few { flag_count (shape z) (marked (shape z) marks.now) s ≤ 3 }
-    ensures planned { Planned (shape z) (marked (shape z) marks.now) s result }
-    ensures fills { Fills (shape z) (marked (shape z) marks.now) s result }
+    requires few { flag_count (shape z) (marked_by M.counts M.none (shape z) marks.now) s ≤ 3 }
+    ensures planned { Planned (shape z) (marked_by M.counts M.none (shape z) marks.now) s result }
+    ensures fills { Fills (shape z) (marked_by M.counts M.none (shape z) marks.now) s result }
 {
     let data = z.data_tracks(s);
     let first = z.track_number(s, 0);
@@ -37,7 +40,7 @@ pub fn make_plan(marks: &[bool], z: Sizes, s: TrackSet) -> Plan
     let mut j = None;
     let mut k = None;
     for t in 0..data + 2 {
-        if marks[first + t] {
+        if marks[first + t].is_set() {
             i = j;
             j = k;
             k = Some(t);

@@ -134,7 +134,7 @@ known {sh} {flag} {s} {p} {y} {x} {m} b u r = record {
       (λ c. r.clear.cell s t m l b (u.rest c t l n))
       (λ c. r.ones s t m l b (omega arith));
   clear = λ d c t q l e h k. r.clear.cell c t q l (omega arith) (u.clear d c t q l e h k);
-  across = λ d j h t q l i k. r.ones (other s) t q l (omega arith) (u.across d j h q i k);
+  across = λ d j h _ t q l i k. r.ones (other s) t q l (omega arith) (u.across d j h q i k);
 }
 
 -- Only flagged cells are changed.

@@ -165,10 +165,10 @@ pub plan_kept : (sh : Shape) (f g : TrackFlags) (s : TrackSet) (wide : Plan) (lo
 plan_kept sh f g s wide low high last plan fills covered a b c = record {
   exist = λ t h. plan.exist t (named t h);
   fits = record {
-    low_data = λ t e. plan.low_data t (a.track_of t e);
-    below = λ t e. plan.below t (a.track_of t e);
-    high_data = λ t e. let d = plan.high_data t (b.track_of t e) in (omega (arith, d.0.2), d.1);
-    above = λ t e. plan.above t (b.track_of t e);
+    low_data = λ t e _. plan.low_data t (a.track_of t e);
+    below = λ t e _. plan.below t (a.track_of t e);
+    high_data = λ t e _. let d = plan.high_data t (b.track_of t e) in (omega (arith, d.0.2), d.1);
+    above = λ t e _. plan.above t (b.track_of t e);
   };
   flagged = on;
   rest = λ _. off;

@@ -3,4 +3,4 @@ use Rattle.changes.proofs.Tracks.{Counting}
 use Rattle.changes.proofs.count_changes.Given as goal
 
 abbrev pub invariant-loop-g : goal.invariant-loop-g
-invariant-loop-g l = Counting l.l l.image l.out l.g l.mask l.cells
+invariant-loop-g g l = Counting l.l l.image l.out l.g l.mask l.cells

@@ -6,6 +6,6 @@ use Rattle.flags.proofs.Bits.{marks_code}
 use Rattle.flags.proofs.code_of.Goals as goal
 
 pub returns : goal.returns
-returns c =
+returns g c =
     c.reach_code.ensures ∙ ap₂ reach_code c.count_marks.ensures c.count_marks-2.ensures
-    ∙ marks_code (shape c.args.z) c.args.marks.now _ _ c.tracks-a.ensures (search rules) (omega arith)
+    ∙ marks_code g.M.Mark.counts g.M.Mark.none (shape c.args.z) c.args.marks.now _ _ (omega arith) (search rules) (omega arith)

@@ -5,13 +5,13 @@ use Rattle.repair.proofs.Preparing.{both_cleared}
 use Rattle.repair.proofs.prepare.Goals as goal
 
 pub clear_tails-a-requires-clause-image : goal.clear_tails-a-requires-clause-image
-clear_tails-a-requires-clause-image c =
+clear_tails-a-requires-clause-image g c =
     let s = c.requires in
     let i = s.read_image in
     copy_image (shape c.args.z) _ i.size i.readings _ (copy_made (shape c.args.z) _ i.size _ _ s.out_len c.copy_known.ensures)
 
 pub returns : goal.returns
-returns c =
+returns g c =
     let s = c.requires in
     let e = copy_made (shape c.args.z) _ s.read_image.size _ _ s.out_len c.copy_known.ensures in
     both_cleared _ _ _ _ _ _ _ _ _ e c.clear_tails-a.ensures c.clear_tails-b.ensures c.load_sums.ensures
