@@ -39,7 +39,7 @@ use repair::Needs;
 // ---- What is allowed
 
 // The extras that a code allows.
-const MOST: [Reach; 6] = [
+pub const MOST: [Reach; 6] = [
     Reach { a: 0, b: 0, all: 0 },
     Reach { a: 0, b: 0, all: 0 },
     Reach { a: 1, b: 0, all: 1 },

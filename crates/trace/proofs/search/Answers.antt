@@ -12,10 +12,10 @@ loop-j-preserved c =
 pub search-preserved : goal.search-preserved
 search-preserved c =
     let i = c.loop-j.invariant in
-    (i.0, seeking_row _ _ _ _ _ i.1 _ (rw (c.size_of.ensures, at_is _ _ c.checked_sub-a.ensures) at c.choices_in-in_b.ensures) c.loop-j-test.false)
+    (i.0, seeking_row _ _ _ _ _ i.1 _ (rw (c.size_of.ensures, at_is _ _ c.checked_sub-a.ensures) at c.choices_in-in_b.ensures) (omega arith))
 
 pub returns-after-search : goal.returns-after-search
-returns-after-search c = let i = c.search.invariant in rw i.0 (seeking_all _ _ _ _ _ i.1 _ c.choices_in-in_a.ensures c.search-test.false)
+returns-after-search c = let i = c.search.invariant in rw i.0 (seeking_all _ _ _ _ _ i.1 _ c.choices_in-in_a.ensures (omega arith))
 
 pub returns-in-Some : goal.returns-in-Some
 returns-in-Some c =
