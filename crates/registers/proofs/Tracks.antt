@@ -7,8 +7,8 @@ use native.Mathlib.Decide.{dec_lt, ℕ_discrete}
 use native.Mathlib.Nat.{add-zero}
 use native.Mathlib.Omega.{arith}
 use borrow.Rule.Slice.PartMut.{put_mid, mid_len, same_len_mid}
-use lib.ListN.{length, get_or, take, drop, set, replicate, get_or-replicate}
-use lib.Seq.{get_or-set_same, get_or-set_other, set-get_or}
+use lib.ListN.{length, get_or, take, drop, set, replicate, get_or-replicate, length-drop}
+use lib.Seq.{get_or-set_same, get_or-set_other, get_or-drop, set-get_or}
 use Rattle.code.specs.Record.{Shape, track_length, Cells, diagonal}
 use Rattle.code.specs.declared.sizes.TrackSet.{TrackSet}
 use Rattle.code.specs.declared.sizes.TrackSet.TheVariants.{A, B}
@@ -18,7 +18,7 @@ use Rattle.track.proofs.Parts.{put_before, put_in}
 use Rattle.registers.specs.declared.Registers.{Registers}
 use Rattle.registers.specs.Places.{BitsAt}
 use Rattle.registers.specs.Register.{of_set, Hold, Enter, BitsTo}
-use Rattle.registers.specs.Steps.{Sevens, DataOf, ChecksOf, BlockBytes, CellsOf, Passed, Passing, HeldAt, Held, TwoPassed, Carried, slid, TailHeld}
+use Rattle.registers.specs.Steps.{Sevens, DataOf, ChecksOf, BlockBytes, CellsOf, Passed, Passing, HeldAt, Held, TwoPassed, TwoHeld, Carried, slid, TailHeld}
 use Rattle.registers.proofs.Passing.{but_check, at_start}
 use Rattle.registers.proofs.Entering.{cells_bits, enter_data, enter_tail}
 use Rattle.registers.proofs.Sliding.{slide_head, nothing, slid_stepped}
@@ -127,13 +127,16 @@ module _ (m k : ℕ) (r : Registers) (bytes : Registers) (a b a' b' after_a afte
     two : Passing n payload (m + 2) after_a after_b next
     two = passing_more n payload (m + 1) k r' bytes a' b' after_a after_b next one q (omega arith) (omega arith) enter_two (m + 2) (omega arith)
 
-    two_held : Held n payload m a b → Held n payload (m + 2) after_a after_b
-    two_held h =
+    both_held : Held n payload m a b → Held n payload (m + 2) after_a after_b
+    both_held h =
         let first = held_more n payload m (k + 1) r bytes a b a' b' r' s p (omega arith) (omega arith) enter_one (m + 1) (omega arith) h in
         held_more n payload (m + 1) k r' bytes a' b' after_a after_b next one q (omega arith) (omega arith) enter_two (m + 2) (omega arith) first
 
   pub two_passed : TwoPassed m k r bytes a b after_a after_b next
-  two_passed = record { passing = two; held = two_held }
+  two_passed = record { passing = two }
+
+  pub two_held : TwoHeld m k r bytes a b after_a after_b
+  two_held = record { held = both_held }
 
 -- The eight positions of a block.
 module _ (n : ℕ) (payload : List ℕ) (block : ℕ) (bytes : Registers) (r r2 r4 r6 r8 : Registers) (a a2 a4 a6 a8 b b2 b4 b6 b8 : List ℕ) (has : block < n) (bs : BlockBytes payload (14 * block) bytes)
@@ -160,12 +163,13 @@ module _ (n : ℕ) (payload : List ℕ) (block : ℕ) (bytes : Registers) (r r2 
   pub block_passed : Passing n payload (8 * (block + 1)) a8 b8 r8
   block_passed = rw to8 at (v.passing n payload block has (omega arith) bs s6)
 
-  pub block_held : Held n payload (8 * block) a b → Held n payload (8 * (block + 1)) a8 b8
-  block_held h =
-      let h2 = p.held n payload block has (omega arith) bs s h in
-      let h4 = rw to4 at (q.held n payload block has (omega arith) bs s2 h2) in
-      let h6 = rw to6 at (u.held n payload block has (omega arith) bs s4 h4) in
-      rw to8 at (v.held n payload block has (omega arith) bs s6 h6)
+  pub block_held : TwoHeld (8 * block) 6 r bytes a b a2 b2 → TwoHeld (8 * block + 2) 4 r2 bytes a2 b2 a4 b4 → TwoHeld (8 * block + 4) 2 r4 bytes a4 b4 a6 b6 →
+      TwoHeld (8 * block + 6) 0 r6 bytes a6 b6 a8 b8 → Held n payload (8 * block) a b → Held n payload (8 * (block + 1)) a8 b8
+  block_held held2 held4 held6 held8 h =
+      let h2 = held2.held n payload block has (omega arith) bs s h in
+      let h4 = rw to4 at (held4.held n payload block has (omega arith) bs s2 h2) in
+      let h6 = rw to6 at (held6.held n payload block has (omega arith) bs s4 h4) in
+      rw to8 at (held8.held n payload block has (omega arith) bs s6 h6)
 
 -- Registers of 0.
 none : (s : TrackSet) (i : ℕ) → i < 15 → get_or (of_set s (replicate 15 0) (replicate 15 0)) i 0 ≡ 0
@@ -250,6 +254,35 @@ module _ (n : ℕ) (payload : List ℕ) (r : Registers) (a b after_a after_b : L
   passing_slid (suc j) h = passing_tail n payload (8 * n + j) 0 (8 * n + suc j) (slid j r) nothing after_a after_b after_a after_b (slid (suc j) r) none
       (omega arith) (omega arith) (omega arith) (omega arith) (omega arith) (passing_slid j (omega arith)) (one_more j (omega arith))
 
+-- Registers of which these are the places.
+passing_places : (n : ℕ) (payload : List ℕ) (m : ℕ) (a b : List ℕ) (r places : Registers) →
+    ((s : TrackSet) (k : ℕ) → k < 15 → get_or (of_set s places.a places.b) k 0 ≡ get_or (of_set s r.a r.b) k 0) → Passing n payload m a b r → Passing n payload m a b places
+passing_places n payload m a b r places same p = record {
+  registers = record { bit = λ s k h. rw (same s k h) (p.registers.bit s k h) };
+  tracks = p.tracks;
+  hold = λ sh x sevens d c. record { register = λ s. record { place = λ k h. same s k (omega (arith, sevens.t1_seven, sevens.t2_seven)) ∙ ((p.hold sh x sevens d c).register s).place k h } };
+  even = p.even;
+}
+
+-- Tracks 0 of the tail are the places.
+module _ (n : ℕ) (payload : List ℕ) (r : Registers) (a b after_a after_b : List ℕ) (p : Passing n payload (8 * n) a b r)
+    (size_a : length after_a ≡ 8 * n + 15) (size_b : length after_b ≡ 8 * n + 15)
+    (stays : (s : TrackSet) (q : ℕ) → q < 8 * n → get_or (of_set s after_a after_b) q 0 ≡ get_or (of_set s a b) q 0)
+    (put : (s : TrackSet) (k : ℕ) → k < 15 → get_or (of_set s after_a after_b) (8 * n + k) 0 ≡ get_or (of_set s r.a r.b) k 0) where
+  abbrev places : Registers
+  places = record { a = drop (8 * n) after_a; b = drop (8 * n) after_b }
+
+  placed : (s : TrackSet) (k : ℕ) → get_or (of_set s after_a after_b) (8 * n + k) 0 ≡ get_or (of_set s places.a places.b) k 0
+  placed A k = sym (get_or-drop (8 * n) after_a k 0)
+  placed B k = sym (get_or-drop (8 * n) after_b k 0)
+
+  passing : Passing n payload (8 * n) a b places
+  passing = passing_places n payload (8 * n) a b r places (λ s k h. sym (placed s k) ∙ put s k h) p
+
+  carried_by_places : Carried n payload after_a after_b
+  carried_by_places = carried n payload after_a after_b (slid 15 places) size_a size_b
+      (passing_slid n payload places a b after_a after_b passing (omega (arith, length-drop (8 * n) after_a)) (omega (arith, length-drop (8 * n) after_b)) size_a size_b stays (λ s k h. placed s k) 15 (omega arith))
+
 -- As the code puts it.
 module _ (n : ℕ) (payload : List ℕ) (r : Registers) (a b ys zs : List ℕ) (size_a : length a ≡ 8 * n + 15) (size_b : length b ≡ 8 * n + 15)
     (few_a : length ys ≡ length (take (length a - 8 * n) (drop (8 * n) a))) (few_b : length zs ≡ length (take (length b - 8 * n) (drop (8 * n) b))) (is_a : ys ≡ r.a) (is_b : zs ≡ r.b)
@@ -273,7 +306,7 @@ module _ (n : ℕ) (payload : List ℕ) (r : Registers) (a b ys zs : List ℕ) (
       (put_size n a ys size_a few_a) (put_size n b zs size_b few_b) stays tail
 
   pub tail_passed : Carried n payload (put_mid (8 * n) (length a - 8 * n) a ys) (put_mid (8 * n) (length b - 8 * n) b zs)
-  tail_passed = carried n payload put_a put_b (slid 15 r) (put_size n a ys size_a few_a) (put_size n b zs size_b few_b) (slides 15 (omega arith))
+  tail_passed = carried_by_places n payload r a b put_a put_b p (put_size n a ys size_a few_a) (put_size n b zs size_b few_b) stays tail
 
   pub tail_slid : TailHeld n payload (put_mid (8 * n) (length a - 8 * n) a ys) (put_mid (8 * n) (length b - 8 * n) b zs)
   tail_slid = record { registers = r; passing = slides }

@@ -84,11 +84,13 @@ pub record HeldAt (n : ℕ) (payload : List ℕ) (m : ℕ) (a b : List ℕ) : Ty
 pub record Held (n : ℕ) (payload : List ℕ) (m : ℕ) (a b : List ℕ) : Type 0 where
   pub held : (q : ℕ) → q ≤ m → HeldAt n payload q a b
 
--- Two positions of a block pass, with bits k + 1 and k of its bytes. The registers that there were so far there still are, and those
--- of the two.
+-- Two positions of a block pass, with bits k + 1 and k of its bytes.
 pub record TwoPassed (m k : ℕ) (r : Registers) (bytes : Registers) (a b after_a after_b : List ℕ) (next : Registers) : Type 0 where
   pub passing : (n : ℕ) (payload : List ℕ) (block : ℕ) → block < n → m + k ≡ 8 * block + 6 → BlockBytes payload (14 * block) bytes →
       Passing n payload m a b r → Passing n payload (m + 2) after_a after_b next
+
+-- And the registers that there were so far there still are, and those of the two.
+pub record TwoHeld (m k : ℕ) (r : Registers) (bytes : Registers) (a b after_a after_b : List ℕ) : Type 0 where
   pub held : (n : ℕ) (payload : List ℕ) (block : ℕ) → block < n → m + k ≡ 8 * block + 6 → BlockBytes payload (14 * block) bytes →
       Passing n payload m a b r → Held n payload m a b → Held n payload (m + 2) after_a after_b
 

@@ -3,7 +3,7 @@
 
 ghost use Rattle.std.specs.Prelude.{◌≡◌, [], ◌∷◌, ◌+◌, ◌*◌, ◌<◌, ◌≤◌, length};
 ghost use Rattle.registers.specs.Register.{Stepped};
-ghost use Rattle.registers.specs.Steps.{SevenAt, Ordered, BlockBytes, CellsOf, Passed, TwoPassed, Stretches, Held, Carried, TailHeld};
+ghost use Rattle.registers.specs.Steps.{SevenAt, Ordered, BlockBytes, CellsOf, Passed, TwoPassed, TwoHeld, Stretches, Held, Carried, TailHeld};
 ghost use Rattle.registers.specs.Places.{Word, Words, Places, Shifted, BitsAt};
 
 // Fifteen places for each set: its register of partial sums, or what enters it.
@@ -155,7 +155,8 @@ impl Registers {
         requires m_in_bounds { m + 2 ≤ length a.old }
         requires m_in_bounds_2 { m + 2 ≤ length b.old }
         requires k_bound { k < 7 }
-        ensures { TwoPassed m k self bytes a.old b.old a.new b.new result }
+        ensures passed { TwoPassed m k self bytes a.old b.old a.new b.new result }
+        ensures held { TwoHeld m k self bytes a.old b.old a.new b.new }
     {
         self.pass(a, b, m, bytes, k + 1).pass(a, b, m + 1, bytes, k)
     }

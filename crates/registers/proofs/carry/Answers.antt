@@ -9,11 +9,15 @@ loop-block-init c = record { passing = passing_none _ _ _ _; held = held_none _ 
 pub loop-block-preserved : goal.loop-block-preserved
 loop-block-preserved c =
     let i = c.loop-block.invariant in
+    let two = c.pass_two.ensures in
+    let four = c.pass_two-in-loop-block.ensures in
+    let six = c.pass_two-in-loop-block-2.ensures in
+    let eight = c.pass_two-r.ensures in
+    let bytes = c.block_bytes-bytes.ensures in
     record {
-      passing = block_passed _ _ _ _ _ _ _ _ _ _ _ _ _ _ _ _ _ _ _ c.loop-block-test.true c.block_bytes-bytes.ensures i.passing c.pass_two.ensures c.pass_two-in-loop-block.ensures
-          c.pass_two-in-loop-block-2.ensures c.pass_two-r.ensures;
-      held = block_held _ _ _ _ _ _ _ _ _ _ _ _ _ _ _ _ _ _ _ c.loop-block-test.true c.block_bytes-bytes.ensures i.passing c.pass_two.ensures c.pass_two-in-loop-block.ensures
-          c.pass_two-in-loop-block-2.ensures c.pass_two-r.ensures i.held;
+      passing = block_passed _ _ _ _ _ _ _ _ _ _ _ _ _ _ _ _ _ _ _ c.loop-block-test.true bytes i.passing two.passed four.passed six.passed eight.passed;
+      held = block_held _ _ _ _ _ _ _ _ _ _ _ _ _ _ _ _ _ _ _ c.loop-block-test.true bytes i.passing two.passed four.passed six.passed eight.passed
+          two.held four.held six.held eight.held i.held;
     }
 
 pub returns : goal.returns
