@@ -197,20 +197,37 @@ static void put_rows(uint8_t *restrict syn, size_t l, size_t p, const uint8_t *r
     vertical_run(syn + 3 * l + p, image, image_l, 1, m);
 }
 
+/* Copies so many cells as the first n and the last m. */
+static inline void copy_ends(uint8_t *restrict out, const uint8_t *restrict track, size_t l, size_t n, size_t m)
+{
+    memcpy(out, track, n);
+    memcpy(out + l - m, track + l - m, m);
+}
+
 /* Copies the first of so many cells, or all where there are fewer. */
 static inline void copy_first(uint8_t *restrict out, const uint8_t *restrict track, size_t l)
 {
-    if (l < FIRST)
-        memcpy(out, track, l);
-    else
+    if (FIRST <= l)
         memcpy(out, track, FIRST);
+    else if (LATEST && 64 <= l)
+        copy_ends(out, track, l, 64, 16);
+    else if (LATEST && 48 <= l)
+        copy_ends(out, track, l, 48, 16);
+    else if (LATEST && 32 <= l)
+        copy_ends(out, track, l, 32, 16);
+    else if (LATEST && 16 <= l)
+        copy_ends(out, track, l, 16, 16);
+    else if (LATEST && 8 <= l)
+        copy_ends(out, track, l, 8, 8);
+    else
+        memcpy(out, track, l);
 }
 
 /* The first cells of each track behind zeros, for the positions where a diagonal goes back past the start. */
 static inline void pad(uint8_t *restrict padded, const uint8_t *restrict image, size_t l)
 {
     for (size_t g = 0; g < ALL; g++)
-        copy_first(padded + g * PADDED + LAG, image + g * l, LATEST ? (ALL - g) * l : l);
+        copy_first(padded + g * PADDED + LAG, image + g * l, l);
 }
 
 /* Puts the sums at the positions from m on into four rows of w, from p on. */

@@ -17,7 +17,7 @@ use Rattle.track.specs.Track.{row}
 use Rattle.track.proofs.Cells.{every}
 use Rattle.track.proofs.Parts.{part_at, put_before, put_in, put_after}
 use Rattle.code.proofs.Places.{row_end}
-use Rattle.track.proofs.Rows.{front}
+use Rattle.track.proofs.Rows.{front, part, part_length, part_row}
 use Rattle.syndrome.specs.Syndrome.{Image}
 use Rattle.sums.specs.Edge.{edge, FirstCopied, Padded}
 
@@ -81,18 +81,8 @@ module _ (z : Sizes) (image padded : List ℕ) (g : ℕ) (is_image : Image (shap
   pub cells_room : first_cell z g + 80 ≤ length padded
   cells_room = omega (arith, row_end w g (all_tracks (shape z)) track)
 
-  -- The image from track g on.
-  abbrev rest : List ℕ
-  rest = take (length image - g * l) (drop (g * l) image)
-
-  rest_length : length rest ≡ length image - g * l
-  rest_length = mid_len (g * l) (length image) image (omega arith)
-
-  rest_row : (m : ℕ) → m < length rest → get_or rest m 0 ≡ row l image g m
-  rest_row m h = part_at image (g * l) (length image - g * l) m (omega (arith, rest_length))
-
   -- Its first cells are copied to a part that comes back.
-  module _ (ys : List ℕ) (c : FirstCopied rest (take (first_cell z g + 80 - first_cell z g) (drop (first_cell z g) padded)) ys) where
+  module _ (ys : List ℕ) (c : FirstCopied (part l image g) (take (first_cell z g + 80 - first_cell z g) (drop (first_cell z g) padded)) ys) where
     abbrev a : ℕ
     a = first_cell z g
 
@@ -102,11 +92,15 @@ module _ (z : Sizes) (image padded : List ℕ) (g : ℕ) (is_image : Image (shap
     fits : length ys ≡ a + 80 - a
     fits = c.size ∙ mid_len a (a + 80) padded cells_room
 
+    -- They are the track's.
+    copied : (m : ℕ) → m < 80 → m < l → get_or ys m 0 ≡ row l image g m
+    copied m h k = c.copy m h (omega (arith, part_length l image g track_room)) ∙ part_row l image g track_room m k
+
     -- The part holds bits, those of the image or those that were there.
     copy_bits : (m : ℕ) → m < 80 → get_or ys m 0 < 2
-    copy_bits m h = by_cases (dec_lt m (length rest))
-        (λ k. rw (c.copy m h k ∙ rest_row m k) (is_image.bits (g * l + m)))
-        (λ k. rw (c.later m (omega arith) ∙ part_at padded a (a + 80 - a) m (omega arith)) (p.bits (a + m)))
+    copy_bits m h = by_cases (dec_lt m l)
+        (λ k. rw (copied m h k) (is_image.bits (g * l + m)))
+        (λ k. rw (c.later m (omega (arith, part_length l image g track_room)) ∙ part_at padded a (a + 80 - a) m (omega arith)) (p.bits (a + m)))
 
     -- So does the whole.
     bits_stay : (i : ℕ) → get_or new i 0 < 2
@@ -138,5 +132,4 @@ module _ (z : Sizes) (image padded : List ℕ) (g : ℕ) (is_image : Image (shap
         here q i h k m n =
             let e : q ≡ g = omega arith in
             let s : g * w + (lag (shape z) + i) ≡ a + i = omega arith in
-            let r : i < length rest = omega (arith, rest_length, track_room) in
-            rw e (ap (λ j. get_or new j 0) s ∙ put_in padded ys a 80 cells_room fits i k ∙ c.copy i k r ∙ rest_row i r)
+            rw e (ap (λ j. get_or new j 0) s ∙ put_in padded ys a 80 cells_room fits i k ∙ copied i k m)
